@@ -1,0 +1,10 @@
+use Rattle.mast_terms.specs.Vocabularies.{same_value}
+use Rattle.mast_terms.specs.contracts.value.ValueEq.TheImpl.Laws as laws
+use Rattle.mast_terms.proofs.PlaceLemmas.{place-insert_value, shown-insert_value}
+use Rattle.mast_terms.proofs.constants.put_last.Goals as goal
+
+pub returns-clause-place : goal.returns-clause-place
+returns-clause-place c = place-insert_value same_value c.args.set.now.keys c.in_ok-copy.field-0 c.args.value.now c.in_ok-copy.ensures c.requires (laws.laws-law.refl c.args.value.now) c.insert.new.self.keys c.in_ok-insert.ensures.keys
+
+pub returns-clause-shown : goal.returns-clause-shown
+returns-clause-shown c = shown-insert_value same_value c.args.set.now.keys c.in_ok-copy.field-0 c.args.value.now c.in_ok-copy.ensures c.requires (laws.laws-law.refl c.args.value.now) c.insert.new.self.keys c.in_ok-insert.ensures.keys

@@ -1,0 +1,5 @@
+use Rattle.mast_terms.proofs.IntegerLemmas.{plus_longest}
+use Rattle.mast_terms.proofs.integer_cell.read_positive.Goals as goal
+
+pub returns-in-Err-clause-at : goal.returns-in-Err-clause-at
+returns-in-Err-clause-at c = plus_longest c.args.digits.now c.in-Err.at c.in-Err.ensures.at
