@@ -1,5 +1,5 @@
 -- What one call does to files and sinks in memory.
-use Rattle.std.specs.Prelude.{◌≡◌, ⊤, ℕ, ◌+◌, ◌-◌, ◌<◌, min, Bool, true, false, if◌then◌else◌, not, ◌&&◌, nat_lt, nat_le, List, ◌++◌, length, take, drop, Option, Some, None, Result, Ok, Err}
+use Rattle.std.specs.Prelude.{◌≡◌, ℕ, ◌+◌, ◌-◌, min, Bool, true, false, if◌then◌else◌, not, ◌&&◌, nat_lt, nat_le, List, ◌++◌, length, take, drop, Option, Some, None, Result, Ok, Err}
 use Rattle.mast_terms.specs.declared.memory.Stop.{Stop}
 use Rattle.mast_terms.specs.declared.memory.Stop.TheVariants as stop
 use Rattle.mast_files.specs.declared.outside.Failed.{Failed}
@@ -15,23 +15,23 @@ may_start old name = not (is_failing old.failing old.calls) && holds old.files n
 abbrev pub StartsInMemory : {T : Type 0} → MemFilesState → List ℕ → Result T (Stop Failed) → MemFilesState → Type 0
 StartsInMemory old name (Ok x) new =
     (may_start old name ≡ true)
-      × (new ≡ record old { calls = next_count old.calls; current = Some name; rest = content_of old.files name; failed = false })
+    × (new ≡ record old { calls = next_count old.calls; current = Some name; rest = content_of old.files name; failed = false })
 StartsInMemory old name (Err (stop.Named e)) new =
     (may_start old name ≡ false)
-      × (new ≡ record old { calls = next_count old.calls; faults = next_count old.faults; current = Some name; rest = new.rest; failed = true })
+    × (new ≡ record old { calls = next_count old.calls; faults = next_count old.faults; current = Some name; rest = new.rest; failed = true })
 StartsInMemory old name (Err stop.NoMemory) new = new ≡ old
 
 -- A read fails exactly where its number is one that fails, and else gives as much as there is, up to `most`.
 abbrev pub ReadsInMemory : MemFilesState → List ℕ → Result ℕ Failed → MemFilesState → List ℕ → Type 0
 ReadsInMemory old before (Ok n) new after =
     (is_failing old.failing old.calls ≡ false)
-      × (n ≡ min old.most (min (length before) (length old.rest)))
-      × (after ≡ take n old.rest ++ drop n before)
-      × (new ≡ record old { calls = next_count old.calls; rest = drop n old.rest })
+    × (n ≡ min old.most (min (length before) (length old.rest)))
+    × (after ≡ take n old.rest ++ drop n before)
+    × (new ≡ record old { calls = next_count old.calls; rest = drop n old.rest })
 ReadsInMemory old before (Err e) new after =
     (is_failing old.failing old.calls ≡ true)
-      × (after ≡ before)
-      × (new ≡ record old { calls = next_count old.calls; faults = next_count old.faults; failed = true })
+    × (after ≡ before)
+    × (new ≡ record old { calls = next_count old.calls; faults = next_count old.faults; failed = true })
 
 -- A start never fails.
 abbrev pub StartsSoundly : {T : Type 0} → SoundFilesState → List ℕ → Result T (Stop Failed) → SoundFilesState → Type 0
@@ -43,8 +43,8 @@ StartsSoundly old name (Err stop.NoMemory) new = new ≡ old
 abbrev pub ReadsSoundly : SoundFilesState → List ℕ → Result ℕ Failed → SoundFilesState → List ℕ → Type 0
 ReadsSoundly old before (Ok n) new after =
     (n ≡ min (length before) (length old.rest))
-      × (after ≡ take n old.rest ++ drop n before)
-      × (new ≡ record old { rest = drop n old.rest })
+    × (after ≡ take n old.rest ++ drop n before)
+    × (new ≡ record old { rest = drop n old.rest })
 ReadsSoundly old before (Err e) new after = ⊥
 
 -- whether a `MemSink` takes the next piece: the call's number is none that fails, and there is room
@@ -55,11 +55,11 @@ may_put old = not (is_failing old.failing old.calls) && nat_lt (length old.writt
 abbrev pub PutsInMemory : MemSinkState → List ℕ → Result ℕ Failed → MemSinkState → Type 0
 PutsInMemory old piece (Ok n) new =
     (may_put old ≡ true)
-      × (n ≡ min old.most (min (old.room - length old.written) (length piece)))
-      × (new ≡ record old { written = old.written ++ take n piece; calls = next_count old.calls })
+    × (n ≡ min old.most (min (old.room - length old.written) (length piece)))
+    × (new ≡ record old { written = old.written ++ take n piece; calls = next_count old.calls })
 PutsInMemory old piece (Err e) new =
     (may_put old ≡ false)
-      × (new ≡ record old { calls = next_count old.calls; faults = next_count old.faults })
+    × (new ≡ record old { calls = next_count old.calls; faults = next_count old.faults })
 
 -- what is told once a piece is written: all, while that is at most the room
 abbrev pub told_within : ℕ → Option (List ℕ) → List ℕ → Option (List ℕ)

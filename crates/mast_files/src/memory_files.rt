@@ -31,9 +31,14 @@ impl Model for MemFiles {
     ghost Value = { MemFilesState };
 
     ghost view = { λ m. record {
-        files = m.store.files; failing = m.calls.failing.items; most = m.most;
-        calls = m.calls.count; faults = m.calls.faults;
-        current = m.current; rest = m.store.rest; failed = m.failed
+      files = m.store.files;
+      failing = m.calls.failing.items;
+      most = m.most;
+      calls = m.calls.count;
+      faults = m.calls.faults;
+      current = m.current;
+      rest = m.store.rest;
+      failed = m.failed;
     } };
 
     ghost invariant = { λ m. 0 < m.most };
@@ -46,8 +51,14 @@ impl MemFiles {
     pub fn new(files: Vec<(Text, List<u8>)>, failing: Vec<u64>, most: usize) -> MemFiles
         requires some { 0 < most }
         ensures made { result ≡ record {
-            files = files.items; failing = failing.items; most = most; calls = 0; faults = 0;
-            current = None; rest = []; failed = false
+          files = files.items;
+          failing = failing.items;
+          most = most;
+          calls = 0;
+          faults = 0;
+          current = None;
+          rest = [];
+          failed = false;
         } }
         ensures contents { ⟦<MemFiles as Files>⟧.contents result ≡ Some (content_of files.items) }
     {

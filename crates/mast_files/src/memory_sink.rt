@@ -25,8 +25,12 @@ impl Model for MemSink {
     ghost Value = { MemSinkState };
 
     ghost view = { λ s. record {
-        written = s.bytes.items; room = s.room; failing = s.calls.failing.items; most = s.most;
-        calls = s.calls.count; faults = s.calls.faults
+      written = s.bytes.items;
+      room = s.room;
+      failing = s.calls.failing.items;
+      most = s.most;
+      calls = s.calls.count;
+      faults = s.calls.faults;
     } };
 
     ghost invariant = { λ s. (0 < s.most) × (vec_len s.bytes ≤ s.room) × (s.room ≤ vec_capacity s.bytes) };
@@ -43,7 +47,12 @@ impl MemSink {
     ) -> Result<MemSink, NoMemory>
         requires some { 0 < most }
         ensures { IfOk result (λ sink. sink ≡ record {
-            written = []; room = room; failing = failing.items; most = most; calls = 0; faults = 0
+          written = [];
+          room = room;
+          failing = failing.items;
+          most = most;
+          calls = 0;
+          faults = 0;
         }) }
     {
         Ok(MemSink {

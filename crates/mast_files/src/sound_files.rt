@@ -30,7 +30,7 @@ impl SoundFiles {
     pub fn new(files: Vec<(Text, List<u8>)>) -> SoundFiles
         ensures made { result ≡ record { files = files.items; current = None; rest = [] } }
         ensures contents { ⟦<SoundFiles as Files>⟧.contents result ≡ Some (content_of files.items) }
-        ensures never_fails { (files : SoundFilesState) → ⟦<SoundFiles as Files>⟧.faults files ≡ 0 }
+        ensures never_fails { (state : SoundFilesState) → ⟦<SoundFiles as Files>⟧.faults state ≡ 0 }
     {
         SoundFiles {
             store: Store::new(files),

@@ -33,7 +33,7 @@ impl SoundSink {
     /// Reserves `room` bytes.
     pub fn new(alloc: Global, room: usize) -> Result<SoundSink, NoMemory>
         ensures made { IfOk result (λ sink. sink ≡ record { written = Some []; room = room }) }
-        ensures never_fails { (sink : SoundSinkState) → ⟦<SoundSink as Sink>⟧.faults sink ≡ 0 }
+        ensures never_fails { (state : SoundSinkState) → ⟦<SoundSink as Sink>⟧.faults state ≡ 0 }
     {
         Ok(SoundSink {
             bytes: Vec::with_capacity(alloc, room)?,
@@ -46,11 +46,7 @@ impl SoundSink {
     pub fn written(&self) -> Option<&[u8]>
         ensures { option_map (λ bytes. bytes.now) result ≡ self.now.written }
     {
-        if self.told {
-            Some(&self.bytes)
-        } else {
-            None
-        }
+        if self.told { Some(&self.bytes) } else { None }
     }
 }
 

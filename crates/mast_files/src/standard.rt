@@ -29,7 +29,7 @@ impl<P: Print> Sink for StdSink<'_, P> {
     ghost faults = { λ s. s.faults };
 
     fn put(&mut self, piece: &[u8]) -> Result<usize, Failed> {
-        match write(self.rt, piece) {
+        match write_once(self.rt, piece) {
             Ok(count) if count > 0 => Ok(count),
             _ => {
                 self.faults = self.faults.saturating_add(1);
@@ -40,7 +40,7 @@ impl<P: Print> Sink for StdSink<'_, P> {
 }
 
 // Writes once, again where it was interrupted.
-fn write<P: Print>(rt: &P, piece: &[u8]) -> io::Result<usize>
+fn write_once<P: Print>(rt: &P, piece: &[u8]) -> io::Result<usize>
     ensures { IfOk result (λ n. n ≤ length piece.now) }
 {
     for _ in 0..AGAIN {

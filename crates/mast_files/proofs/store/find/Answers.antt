@@ -1,4 +1,4 @@
-use Rattle.std.proofs.Common.{◌≡◌, ◌<◌, length, drop, arith, refl, sym, ◌∙◌}
+use Rattle.std.proofs.Common.{◌<◌, length, arith, refl, sym, ◌∙◌}
 use Rattle.std.proofs.lemmas.Option.{slice_get_read}
 use Rattle.mast_files.proofs.StoredLemmas.{content_of-drop}
 use Rattle.mast_files.proofs.store.find.Goals as goal
