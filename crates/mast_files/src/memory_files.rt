@@ -1,9 +1,7 @@
 // Files in memory, of which calls can be made to fail.
-ghost use Rattle.std.specs.Prelude.{◌≡◌, ◌<◌, [], length, Some, None, true, false, IfOk, OnOk, OnErr, IsSome};
+ghost use Rattle.std.specs.Prelude.{◌≡◌, ◌<◌, [], Some, None, false};
 ghost use Rattle.std.specs.Io.KnownBytes.{ReadConsumes};
-ghost use Rattle.std.specs.Io.{ReadsAtMost};
 ghost use Rattle.mast_files.specs.Causes.{Counts, CountsStop};
-ghost use Rattle.mast_files.specs.Outside.{Starts};
 ghost use Rattle.mast_files.specs.Stored.{content_of};
 ghost use Rattle.mast_files.specs.Steps.{StartsInMemory, ReadsInMemory};
 

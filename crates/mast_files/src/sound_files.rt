@@ -1,5 +1,5 @@
 // Files in memory that never fail.
-ghost use Rattle.std.specs.Prelude.{◌≡◌, ℕ, [], Some, None, false};
+ghost use Rattle.std.specs.Prelude.{◌≡◌, [], Some, None, false};
 ghost use Rattle.mast_files.specs.States.{SoundFilesState};
 ghost use Rattle.mast_files.specs.Stored.{content_of};
 ghost use Rattle.mast_files.specs.Steps.{StartsSoundly, ReadsSoundly};

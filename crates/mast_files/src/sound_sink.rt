@@ -1,5 +1,5 @@
 // A sink in memory that never fails.
-ghost use Rattle.std.specs.Prelude.{◌≡◌, [], Some, IfOk, Option};
+ghost use Rattle.std.specs.Prelude.{◌≡◌, [], Some, IfOk};
 ghost use Rattle.std.specs.Option.{option_map};
 ghost use Rattle.mast_files.specs.States.{SoundSinkState};
 ghost use Rattle.mast_files.specs.Steps.{PutsSoundly};

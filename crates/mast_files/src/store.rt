@@ -1,6 +1,5 @@
 // Files in memory, of which one may be open.
-ghost use Rattle.std.specs.Prelude.{◌≡◌, ◌++◌, [], length, take, drop, min, Some, IsSome, IfSome, IfNone, is_some};
-ghost use Rattle.std.specs.Io.KnownBytes.{Consumes, IsAtEnd};
+ghost use Rattle.std.specs.Prelude.{◌≡◌, ◌++◌, [], length, take, drop, min, is_some};
 ghost use Rattle.mast_files.specs.Stored.{content_of, content_at, holds};
 
 use mast_terms::{List, Text};
