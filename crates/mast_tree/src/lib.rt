@@ -1,0 +1,25 @@
+//! Tokens and trees of a document: the ontology, the constraints or the mappings.
+//! The crates above rest on this: a document is the tree that the grammar gives, or the answer is its first breach.
+//! `specs/Grammar.antt` has the trees, `specs/Source.antt` the tokens of a source.
+//! It must not know what a node means: neither axioms nor tables.
+#![tactic(auto)]
+
+mod item;
+mod lexer;
+mod place;
+mod prefix;
+mod reader;
+mod scan;
+mod shape;
+#[cfg(test)]
+mod tests;
+mod token;
+mod trees;
+mod words;
+
+pub use item::{Doc, DocName, Item, TreeBreach, TreeKind};
+pub use lexer::tokens;
+pub use prefix::{PrefixTable, prefixes};
+pub use reader::read_doc;
+pub use shape::{ShapeBreach, ShapeKind};
+pub use token::{LexBreach, LexKind, Token, TokenKind};

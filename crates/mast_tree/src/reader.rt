@@ -1,0 +1,55 @@
+// From tokens to a document.
+ghost use Rattle.std.specs.Prelude.{◌<◌, length};
+
+use crate::place::{Move, Place, advance, ends};
+use crate::trees::Trees;
+use crate::{Doc, Item, Token, TreeBreach, TreeKind};
+use mast_terms::Stop;
+use sqlite_items::Items;
+use std::alloc::Global;
+
+fn breach(token: u32, kind: TreeKind) -> Stop<TreeBreach> {
+    Stop::Named(TreeBreach { token, kind })
+}
+
+fn read_items(alloc: Global, tokens: &[Token]) -> Result<Items<Item>, Stop<TreeBreach>>
+    requires { length tokens.now < 4294967295 }
+{
+    let mut trees = Trees::new(alloc);
+    let mut place = Place::Item;
+    let mut depth = 0;
+    let mut at = 0;
+    for token in tokens {
+        match advance(place, depth, token.kind) {
+            Move::Deeper => return Err(breach(at, TreeKind::Deep)),
+            Move::Stuck => return Err(breach(at, TreeKind::Unexpected)),
+            Move::To(next, open) => {
+                trees.read(alloc, place, token.kind, at)?;
+                place = next;
+                depth = open;
+            }
+        }
+        at += 1;
+    }
+    if ends(place, depth) {
+        Ok(trees.finish(place)?)
+    } else {
+        Err(breach(at, TreeKind::Unexpected))
+    }
+}
+
+/// The document of a source and its tokens, or the first breach of the grammar.
+pub fn read_doc<'a>(
+    alloc: Global,
+    source: &'a [u8],
+    tokens: &'a [Token],
+) -> Result<Doc<'a>, Stop<TreeBreach>>
+    requires { length tokens.now < 4294967295 }
+{
+    let items = read_items(alloc, tokens)?;
+    Ok(Doc {
+        source,
+        tokens,
+        items,
+    })
+}

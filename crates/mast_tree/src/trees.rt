@@ -1,0 +1,142 @@
+// Trees while they grow: the items so far, inside the nodes that are open.
+use crate::place::Place;
+use crate::{Item, TokenKind};
+use mast_terms::NoMemory;
+use sqlite_items::Items;
+use std::alloc::Global;
+use std::mem;
+
+/// A node whose parenthesis is open: the items before it, and its name's token.
+#[derive(Debug, Drop)]
+pub struct Frame {
+    items: Items<Item>,
+    token: u32,
+}
+
+/// The open nodes, the outermost first; the items inside the innermost; and the first token of an item that is begun.
+#[derive(Debug, Drop)]
+pub struct Trees {
+    frames: Items<Frame>,
+    items: Items<Item>,
+    first: u32,
+}
+
+impl Trees {
+    pub fn new(alloc: Global) -> Trees {
+        Trees {
+            frames: Items::new(alloc),
+            items: Items::new(alloc),
+            first: 0,
+        }
+    }
+
+    fn push(&mut self, item: Item) -> Result<(), NoMemory> {
+        self.items.push(item)?;
+        Ok(())
+    }
+
+    /// Opens a node, whose name was begun.
+    fn open(&mut self, alloc: Global) -> Result<(), NoMemory> {
+        let items = mem::replace(&mut self.items, Items::new(alloc));
+        self.frames.push(Frame {
+            items,
+            token: self.first,
+        })?;
+        Ok(())
+    }
+
+    /// Closes the innermost node.
+    fn close(&mut self) -> Result<(), NoMemory> {
+        match self.frames.pop() {
+            None => Ok(()),
+            Some(Frame { items, token }) => {
+                let inside = mem::replace(&mut self.items, items);
+                self.push(Item::Node {
+                    token,
+                    items: inside,
+                })
+            }
+        }
+    }
+
+    /// Reads the first token of an item, or a parenthesis that closes.
+    fn start(&mut self, kind: TokenKind, at: u32) -> Result<(), NoMemory> {
+        match kind {
+            TokenKind::Iri => self.push(Item::Iri { token: at }),
+            TokenKind::Close => self.close(),
+            _ => {
+                self.first = at;
+                Ok(())
+            }
+        }
+    }
+
+    fn after_name(&mut self, alloc: Global, kind: TokenKind, at: u32) -> Result<(), NoMemory> {
+        match kind {
+            TokenKind::Equals => Ok(()),
+            TokenKind::Open => self.open(alloc),
+            _ => {
+                self.push(Item::Leaf { token: self.first })?;
+                self.start(kind, at)
+            }
+        }
+    }
+
+    fn after_str(&mut self, kind: TokenKind, at: u32) -> Result<(), NoMemory> {
+        match kind {
+            TokenKind::Carets => Ok(()),
+            TokenKind::Lang => self.push(Item::Str {
+                token: self.first,
+                tag: Some(at),
+            }),
+            _ => {
+                self.push(Item::Str {
+                    token: self.first,
+                    tag: None,
+                })?;
+                self.start(kind, at)
+            }
+        }
+    }
+
+    /// Reads a token, which the machine allows at the place.
+    pub fn read(
+        &mut self,
+        alloc: Global,
+        place: Place,
+        kind: TokenKind,
+        at: u32,
+    ) -> Result<(), NoMemory> {
+        match place {
+            Place::Item => self.start(kind, at),
+            Place::AfterName => self.after_name(alloc, kind, at),
+            Place::AfterStr => self.after_str(kind, at),
+            Place::AfterCarets => self.push(Item::Str {
+                token: self.first,
+                tag: Some(at),
+            }),
+            Place::AfterEquals => self.push(Item::Bind {
+                token: self.first,
+                iri: at,
+            }),
+        }
+    }
+
+    /// The items, at a place where a document may end.
+    pub fn finish(self, place: Place) -> Result<Items<Item>, NoMemory> {
+        let Trees {
+            frames: _,
+            mut items,
+            first,
+        } = self;
+        match place {
+            Place::AfterName => items.push(Item::Leaf { token: first })?,
+            Place::AfterStr => items.push(Item::Str {
+                token: first,
+                tag: None,
+            })?,
+            _ => (),
+        }
+        Ok(items)
+    }
+}
