@@ -1,6 +1,6 @@
 -- What `look` tells is the first breach.
-use Rattle.std.proofs.Common.{◌≡◌, ◌⊎◌, inl, inr, ℕ, zero, suc, ◌+◌, ◌-◌, ◌<◌, ◌≤◌, ◌==◌, Bool, true, false, List, ◌∷◌, [], ◌++◌, length, take, refl, ap, sym, ◌∙◌, subst, arith, add-one}
-use Rattle.std.specs.Prelude.{Option, Some, None, slice_get, if◌then◌else◌, nat_lt}
+use Rattle.std.proofs.Common.{◌≡◌, ◌⊎◌, inl, inr, ℕ, zero, suc, ◌+◌, ◌-◌, ◌<◌, ◌≤◌, true, false, List, ◌∷◌, [], length, take, refl, ap, sym, ◌∙◌, subst, arith}
+use Rattle.std.specs.Prelude.{Some, slice_get, nat_lt}
 use Rattle.std.proofs.lemmas.List.{append-nil}
 use Rattle.std.proofs.lemmas.Bool.{cases_Bool}
 use Rattle.std.proofs.lemmas.Bool.Decides.{nat_tests}
@@ -8,10 +8,8 @@ use Rattle.mast_tree.specs.Grammar.{Found, fine, unexpected, deep}
 use Rattle.mast_tree.specs.declared.token.TokenKind.{TokenKind}
 use Rattle.mast_tree.specs.declared.token.TokenKind.TheVariants.{Open, Close, Equals, Carets, Lang, Iri, Name, Str}
 use Rattle.mast_tree.specs.declared.place.Place.{Place}
-use Rattle.mast_tree.specs.declared.place.Move.{Move}
-use Rattle.mast_tree.specs.declared.place.Move.TheVariants.{Deeper, Stuck, To}
 use Rattle.mast_tree.specs.declared.place.Place.TheVariants.{Item, AfterName, AfterStr, AfterCarets, AfterEquals}
-use Rattle.mast_tree.specs.Grammar.{IsDocument, Begins, open_after, UnexpectedAt, DeepAt, Tells}
+use Rattle.mast_tree.specs.Grammar.{IsDocument, Begins, open_after, UnexpectedAt, Tells}
 use Rattle.mast_tree.specs.Machine.{State, stuck, at, item_step, step, run, ends, is_deep, one_on, later, if_goes, look, of_state, move_of, on_move}
 use Rattle.mast_tree.proofs.GrammarLemmas.{Goes, begins_goes, goes_begins, document_ends, ends_document}
 

@@ -1,5 +1,5 @@
 -- Which lists of token kinds are documents, and where the first breach is.
-use Rattle.std.specs.Prelude.{◌≡◌, ℕ, zero, suc, ◌+◌, ◌-◌, ◌<◌, ◌≤◌, List, [], ◌∷◌, ◌++◌, length, take, Option, Some, None, slice_get, ◌⊎◌}
+use Rattle.std.specs.Prelude.{◌≡◌, ℕ, zero, suc, ◌<◌, ◌≤◌, List, [], ◌∷◌, ◌++◌, length, take, Some, slice_get}
 use Rattle.mast_tree.specs.declared.token.TokenKind.{TokenKind}
 use Rattle.mast_tree.specs.declared.token.TokenKind.TheVariants.{Open, Close, Equals, Carets, Lang, Iri, Name, Str}
 
@@ -59,7 +59,7 @@ pub data Found : Type 0 where
   unexpected : ℕ → Found
   deep : ℕ → Found
 
--- what is told of a list of kinds: the first breach, where deep comes first at one token
+-- what is told of a list of kinds: the first breach, where the 65th parenthesis comes first at one token
 abbrev pub Tells : List TokenKind → Found → Type 0
 Tells ks fine = IsDocument ks × ((i : ℕ) → DeepAt ks i → ⊥)
 Tells ks (unexpected i) = UnexpectedAt ks i × ((j : ℕ) → j ≤ i → DeepAt ks j → ⊥)

@@ -1,6 +1,5 @@
 -- How far a form goes, read byte by byte. What the scans mean is said by the forms in Tokens.
-use Rattle.std.specs.Prelude.{◌≡◌, ℕ, ◌+◌, ◌<◌, ◌≤◌, ◌==◌, ◌&&◌, ◌||◌, Bool, true, false, not, if◌then◌else◌, List, [], ◌∷◌}
-use Rattle.mast_tree.specs.declared.token.TokenKind.{TokenKind}
+use Rattle.std.specs.Prelude.{ℕ, ◌+◌, ◌<◌, ◌≤◌, ◌==◌, ◌||◌, Bool, true, false, not, if◌then◌else◌, List, [], ◌∷◌}
 use Rattle.mast_tree.specs.declared.token.TokenKind.TheVariants.{Open, Close, Equals, Carets, Lang, Iri, Name, Str}
 use Rattle.mast_tree.specs.declared.token.LexKind.TheVariants.{Character, OpenString, Escape, OpenIri}
 use Rattle.mast_tree.specs.declared.scan.Scanned.{Scanned}

@@ -5,6 +5,7 @@
 #![tactic(auto)]
 
 mod item;
+mod laws;
 mod lexer;
 mod place;
 mod prefix;
@@ -18,6 +19,7 @@ mod trees;
 mod words;
 
 pub use item::{Doc, DocName, Item, TreeBreach, TreeKind};
+pub use laws::tree_law;
 pub use lexer::tokens;
 pub use prefix::{PrefixTable, prefixes};
 pub use reader::read_doc;

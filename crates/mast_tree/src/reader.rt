@@ -1,5 +1,8 @@
 // From tokens to a document.
-ghost use Rattle.std.specs.Prelude.{◌<◌, length};
+ghost use Rattle.std.specs.Prelude.{◌≡◌, ◌<◌, length, IfOk};
+ghost use Rattle.mast_terms.specs.declared.memory.Stop.TheVariants as stop;
+ghost use Rattle.mast_tree.specs.Outcome.{Answers};
+ghost use Rattle.mast_tree.specs.Trees.{IsTree, IsTreeBreach};
 
 use crate::place::{Move, Place, advance, ends};
 use crate::trees::Trees;
@@ -8,12 +11,15 @@ use mast_terms::Stop;
 use sqlite_items::Items;
 use std::alloc::Global;
 
-fn breach(token: u32, kind: TreeKind) -> Stop<TreeBreach> {
+fn breach(token: u32, kind: TreeKind) -> Stop<TreeBreach>
+    ensures { result ≡ stop.Named (record { token = token; kind = kind }) }
+{
     Stop::Named(TreeBreach { token, kind })
 }
 
 fn read_items(alloc: Global, tokens: &[Token]) -> Result<Items<Item>, Stop<TreeBreach>>
     requires { length tokens.now < 4294967295 }
+    ensures { Answers result (IsTree tokens.now) (IsTreeBreach tokens.now) }
 {
     let mut trees = Trees::new(alloc);
     let mut place = Place::Item;
@@ -45,6 +51,9 @@ pub fn read_doc<'a>(
     tokens: &'a [Token],
 ) -> Result<Doc<'a>, Stop<TreeBreach>>
     requires { length tokens.now < 4294967295 }
+    ensures source { IfOk result (λ doc. doc.source.now ≡ source.now) }
+    ensures tokens { IfOk result (λ doc. doc.tokens.now ≡ tokens.now) }
+    ensures tree { Answers result (λ doc. IsTree tokens.now doc.items) (IsTreeBreach tokens.now) }
 {
     let items = read_items(alloc, tokens)?;
     Ok(Doc {

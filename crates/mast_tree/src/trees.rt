@@ -1,4 +1,10 @@
 // Trees while they grow: the items so far, inside the nodes that are open.
+ghost use Rattle.std.specs.Prelude.{◌≡◌, ◌<◌, ◌+◌, ◌++◌, ◌∷◌, [], List, length, true, OnOk, IfOk};
+ghost use Rattle.mast_tree.specs.Growth.{Grown, GrownAt, GrowsTo, Closes};
+ghost use Rattle.mast_tree.specs.Machine as machine;
+ghost use Rattle.mast_tree.specs.Trees.{Stand};
+ghost use Rattle.mast_tree.specs.declared.token.TokenKind.{TokenKind as Kind};
+
 use crate::place::Place;
 use crate::{Item, TokenKind};
 use mast_terms::NoMemory;
@@ -22,7 +28,10 @@ pub struct Trees {
 }
 
 impl Trees {
-    pub fn new(alloc: Global) -> Trees {
+    pub fn new(alloc: Global) -> Trees
+        ensures frames { result.frames ≡ [] }
+        ensures items { result.items ≡ [] }
+    {
         Trees {
             frames: Items::new(alloc),
             items: Items::new(alloc),
@@ -30,13 +39,20 @@ impl Trees {
         }
     }
 
-    fn push(&mut self, item: Item) -> Result<(), NoMemory> {
+    fn push(&mut self, item: Item) -> Result<(), NoMemory>
+        ensures items { OnOk result (self.new.items ≡ self.old.items ++ item ∷ []) }
+        ensures frames { self.new.frames ≡ self.old.frames }
+        ensures first { self.new.first ≡ self.old.first }
+    {
         self.items.push(item)?;
         Ok(())
     }
 
     /// Opens a node, whose name was begun.
-    fn open(&mut self, alloc: Global) -> Result<(), NoMemory> {
+    fn open(&mut self, alloc: Global) -> Result<(), NoMemory>
+        ensures items { OnOk result (self.new.items ≡ []) }
+        ensures frames { OnOk result (self.new.frames ≡ self.old.frames ++ record { items = self.old.items; token = self.old.first } ∷ []) }
+    {
         let items = mem::replace(&mut self.items, Items::new(alloc));
         self.frames.push(Frame {
             items,
@@ -46,7 +62,9 @@ impl Trees {
     }
 
     /// Closes the innermost node.
-    fn close(&mut self) -> Result<(), NoMemory> {
+    fn close(&mut self) -> Result<(), NoMemory>
+        ensures { OnOk result (0 < length self.old.frames → Closes self.old self.new) }
+    {
         match self.frames.pop() {
             None => Ok(()),
             Some(Frame { items, token }) => {
@@ -60,7 +78,9 @@ impl Trees {
     }
 
     /// Reads the first token of an item, or a parenthesis that closes.
-    fn start(&mut self, kind: TokenKind, at: u32) -> Result<(), NoMemory> {
+    fn start(&mut self, kind: TokenKind, at: u32) -> Result<(), NoMemory>
+        ensures { OnOk result ((ks : List Kind) → length ks ≡ at → Grown 0 self.old.frames self.old.items ks → GrowsTo (machine.item_step (length self.old.frames) kind) self.new (ks ++ kind ∷ [])) }
+    {
         match kind {
             TokenKind::Iri => self.push(Item::Iri { token: at }),
             TokenKind::Close => self.close(),
@@ -71,7 +91,9 @@ impl Trees {
         }
     }
 
-    fn after_name(&mut self, alloc: Global, kind: TokenKind, at: u32) -> Result<(), NoMemory> {
+    fn after_name(&mut self, alloc: Global, kind: TokenKind, at: u32) -> Result<(), NoMemory>
+        ensures { OnOk result ((ks : List Kind) → length ks ≡ at → GrownAt Place.AfterName self.old ks → GrowsTo (machine.step Place.AfterName (length self.old.frames) kind) self.new (ks ++ kind ∷ [])) }
+    {
         match kind {
             TokenKind::Equals => Ok(()),
             TokenKind::Open => self.open(alloc),
@@ -82,7 +104,9 @@ impl Trees {
         }
     }
 
-    fn after_str(&mut self, kind: TokenKind, at: u32) -> Result<(), NoMemory> {
+    fn after_str(&mut self, kind: TokenKind, at: u32) -> Result<(), NoMemory>
+        ensures { OnOk result ((ks : List Kind) → length ks ≡ at → GrownAt Place.AfterStr self.old ks → GrowsTo (machine.step Place.AfterStr (length self.old.frames) kind) self.new (ks ++ kind ∷ [])) }
+    {
         match kind {
             TokenKind::Carets => Ok(()),
             TokenKind::Lang => self.push(Item::Str {
@@ -106,7 +130,9 @@ impl Trees {
         place: Place,
         kind: TokenKind,
         at: u32,
-    ) -> Result<(), NoMemory> {
+    ) -> Result<(), NoMemory>
+        ensures { OnOk result ((ks : List Kind) → length ks ≡ at → GrownAt place self.old ks → GrowsTo (machine.step place (length self.old.frames) kind) self.new (ks ++ kind ∷ [])) }
+    {
         match place {
             Place::Item => self.start(kind, at),
             Place::AfterName => self.after_name(alloc, kind, at),
@@ -123,20 +149,27 @@ impl Trees {
     }
 
     /// The items, at a place where a document may end.
-    pub fn finish(self, place: Place) -> Result<Items<Item>, NoMemory> {
+    pub fn finish(self, place: Place) -> Result<Items<Item>, NoMemory>
+        ensures { IfOk result (λ items. (ks : List Kind) → GrownAt place self ks → machine.ends (machine.at place (length self.frames)) ≡ true → Stand ks items) }
+    {
         let Trees {
             frames: _,
             mut items,
             first,
         } = self;
         match place {
-            Place::AfterName => items.push(Item::Leaf { token: first })?,
-            Place::AfterStr => items.push(Item::Str {
-                token: first,
-                tag: None,
-            })?,
-            _ => (),
+            Place::AfterName => {
+                items.push(Item::Leaf { token: first })?;
+                Ok(items)
+            }
+            Place::AfterStr => {
+                items.push(Item::Str {
+                    token: first,
+                    tag: None,
+                })?;
+                Ok(items)
+            }
+            _ => Ok(items),
         }
-        Ok(items)
     }
 }

@@ -1,0 +1,16 @@
+-- Laws of the definitions.
+use Rattle.std.specs.Prelude.{◌≡◌, List, ◌⊎◌}
+use Rattle.mast_tree.specs.declared.token.Token.{Token}
+use Rattle.mast_tree.specs.declared.item.Item.{Item}
+use Rattle.mast_tree.specs.declared.item.TreeBreach.{TreeBreach}
+use Rattle.mast_tree.specs.Trees.{IsTree, IsTreeBreach}
+
+-- tokens have one tree, or one first breach, and not both
+pub record HasOneTree (tokens : List Token) : Type 0 where
+  pub either : ((items : List Item) × IsTree tokens items) ⊎ ((breach : TreeBreach) × IsTreeBreach tokens breach)
+  pub not_both : (items : List Item) (breach : TreeBreach) → IsTree tokens items → IsTreeBreach tokens breach → ⊥
+  pub one_tree : (a b : List Item) → IsTree tokens a → IsTree tokens b → a ≡ b
+  pub one_breach : (a b : TreeBreach) → IsTreeBreach tokens a → IsTreeBreach tokens b → a ≡ b
+
+abbrev pub TreeLaw : Type 0
+TreeLaw = (tokens : List Token) → HasOneTree tokens

@@ -1,0 +1,7 @@
+// What the definitions promise by themselves: laws, which no code calls.
+ghost use Rattle.mast_tree.specs.Laws.{TreeLaw};
+
+/// Tokens have a tree or a first breach of the grammar, not both, and only one.
+pub fn tree_law()
+    ensures { TreeLaw }
+{}
