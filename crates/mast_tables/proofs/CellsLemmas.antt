@@ -1,0 +1,159 @@
+-- The cells of marks, and the numbers of their values.
+use Rattle.std.proofs.Common.{◌≡◌, ◌⊎◌, inl, inr, ℕ, zero, suc, ◌+◌, ◌-◌, ◌<◌, ◌≤◌, Bool, true, false, not, cond, List, [], ◌∷◌, ◌++◌, map, length, get_or, refl, sym, ap, subst, ◌∙◌, true≢false, arith, if◌then◌else◌}
+use Rattle.std.specs.Prelude.{Option, Some, None, slice_get, option_and_then, nat_lt}
+use Rattle.std.specs.List.{fold, position, position_or_len, list_any, IsDistinct, AllByRecursion}
+use Rattle.std.proofs.lemmas.List.{map-append, get_or-map, length_push, append-nil}
+use Rattle.std.proofs.lemmas.List.Sums.{fold-append}
+use Rattle.std.proofs.lemmas.Option.{slice_get_within, slice_get-get_or}
+use Rattle.std.proofs.lemmas.Map.Keys.{IsDistinct-head, IsDistinct-tail}
+use Rattle.std.proofs.lemmas.Bool.Decides.{nat_tests}
+use Rattle.indexmap.specs.IndexSet.{insert_key}
+use Rattle.mast_terms.specs.declared.value.Value.{Value}
+use Rattle.mast_terms.specs.contracts.value.ValueEq.TheImpl.Laws as laws
+use Rattle.mast_terms.proofs.SameLemmas.{value_same}
+use Rattle.mast_tables.specs.Cells.{same, present, different, number_among, marked, MarksWithin, AreMarks}
+
+same_refl : (v : Value) → same v v ≡ true
+same_refl v = laws.laws-law.refl v
+
+-- one more cell
+present_some : (cells : List (Option Value)) (v : Value) → present (cells ++ Some v ∷ []) ≡ present cells ++ v ∷ []
+present_some [] v = refl
+present_some (None ∷ cells) v = present_some cells v
+present_some (Some u ∷ cells) v = ap (λ (k : List Value). u ∷ k) (present_some cells v)
+
+present_none : (cells : List (Option Value)) → present (cells ++ None ∷ []) ≡ present cells
+present_none [] = refl
+present_none (None ∷ cells) = present_none cells
+present_none (Some u ∷ cells) = ap (λ (k : List Value). u ∷ k) (present_none cells)
+
+pub different_some : (cells : List (Option Value)) (v : Value) → different (cells ++ Some v ∷ []) ≡ insert_key same (different cells) v
+different_some cells v = ap (fold (insert_key same) []) (present_some cells v) ∙ fold-append (insert_key same) [] (present cells) (v ∷ [])
+
+pub different_none : (cells : List (Option Value)) → different (cells ++ None ∷ []) ≡ different cells
+different_none cells = ap (fold (insert_key same) []) (present_none cells)
+
+-- marks keep their values as more values come
+marked_more : (vs ws : List Value) (m : ℕ) → m ≤ length vs → marked (vs ++ ws) m ≡ marked vs m
+marked_more vs ws zero h = refl
+marked_more [] ws (suc k) h = absurd (omega arith)
+marked_more (v ∷ vs) ws (suc zero) h = refl
+marked_more (v ∷ vs) ws (suc (suc k)) h = marked_more vs ws (suc k) (omega arith)
+
+cells_more : (vs ws : List Value) (ms : List ℕ) → MarksWithin (length vs) ms → map (marked (vs ++ ws)) ms ≡ map (marked vs) ms
+cells_more vs ws [] h = refl
+cells_more vs ws (m ∷ ms) h =
+    let first : marked (vs ++ ws) m ≡ marked vs m = marked_more vs ws m h.0 in
+    let rest : map (marked (vs ++ ws)) ms ≡ map (marked vs) ms = cells_more vs ws ms h.1 in cc
+
+within_more : (n k : ℕ) (ms : List ℕ) → n ≤ k → MarksWithin n ms → MarksWithin k ms
+within_more n k [] le h = tt
+within_more n k (m ∷ ms) le h = (omega (arith, h.0), within_more n k ms le h.1)
+
+within_push : (n : ℕ) (ms : List ℕ) (m : ℕ) → MarksWithin n ms → m ≤ n → MarksWithin n (ms ++ m ∷ [])
+within_push n [] m h le = (le, tt)
+within_push n (k ∷ ms) m h le = (h.0, within_push n ms m h.1 le)
+
+within_at : (n : ℕ) (ms : List ℕ) (p : ℕ) → MarksWithin n ms → p < length ms → get_or ms p 0 ≤ n
+within_at n [] p h lt = absurd (omega arith)
+within_at n (m ∷ ms) zero h lt = h.0
+within_at n (m ∷ ms) (suc p) h lt = within_at n ms p h.1 (omega arith)
+
+-- a key that is inserted leaves the keys, or goes last
+insert_cases : (vs : List Value) (v : Value) → (insert_key same vs v ≡ vs) ⊎ (insert_key same vs v ≡ vs ++ v ∷ [])
+insert_cases vs v = by (list_any (same v) vs)
+  where
+    by : (b : Bool) → ((if b then vs else vs ++ v ∷ []) ≡ vs) ⊎ ((if b then vs else vs ++ v ∷ []) ≡ vs ++ v ∷ [])
+    by true = inl refl
+    by false = inr refl
+
+kept_cells : (vs vs2 : List Value) (v : Value) (ms : List ℕ) → MarksWithin (length vs) ms → (vs2 ≡ vs) ⊎ (vs2 ≡ vs ++ v ∷ []) → map (marked vs2) ms ≡ map (marked vs) ms
+kept_cells vs vs2 v ms h (inl e) = rw e refl
+kept_cells vs vs2 v ms h (inr e) = rw e (cells_more vs (v ∷ []) ms h)
+
+kept_within : (vs vs2 : List Value) (v : Value) (ms : List ℕ) → MarksWithin (length vs) ms → (vs2 ≡ vs) ⊎ (vs2 ≡ vs ++ v ∷ []) → MarksWithin (length vs2) ms
+kept_within vs vs2 v ms h (inl e) = rw e h
+kept_within vs vs2 v ms h (inr e) = within_more (length vs) (length vs2) ms (omega (arith, ap length e, length_push vs v)) h
+
+-- a missing cell behind the others
+pub none_added : (vs : List Value) (ms : List ℕ) → AreMarks vs ms → AreMarks vs (ms ++ 0 ∷ [])
+none_added vs ms h =
+    let e : map (marked vs) (ms ++ 0 ∷ []) ≡ map (marked vs) ms ++ None ∷ [] = map-append (marked vs) ms (0 ∷ []) in
+    record {
+      within = within_push (length vs) ms 0 h.within (omega arith);
+      values_are = h.values_are ∙ sym (different_none (map (marked vs) ms)) ∙ ap different (sym e);
+      apart = h.apart;
+      few = h.few;
+    }
+
+-- a value behind the others: the cells
+pub some_cells : (vs vs2 : List Value) (ms : List ℕ) (v k : Value) (i : ℕ) → AreMarks vs ms → vs2 ≡ insert_key same vs v → slice_get vs2 i ≡ Some k → same v k ≡ true → map (marked vs2) (ms ++ (i + 1) ∷ []) ≡ map (marked vs) ms ++ Some v ∷ []
+some_cells vs vs2 ms v k i h e at is =
+    let way : (vs2 ≡ vs) ⊎ (vs2 ≡ vs ++ v ∷ []) = rw e (insert_cases vs v) in
+    let old : map (marked vs2) ms ≡ map (marked vs) ms = kept_cells vs vs2 v ms h.within way in
+    let one : v ≡ k = value_same v k is in
+    let up : i + 1 ≡ suc i = omega arith in
+    let last : marked vs2 (i + 1) ≡ Some v = ap (marked vs2) up ∙ at ∙ ap (λ (u : Value). Some u) (sym one) in
+    let both : map (marked vs2) (ms ++ (i + 1) ∷ []) ≡ map (marked vs2) ms ++ marked vs2 (i + 1) ∷ [] = map-append (marked vs2) ms ((i + 1) ∷ []) in cc
+
+pub some_added : (vs vs2 : List Value) (ms : List ℕ) (v k : Value) (i : ℕ) → AreMarks vs ms → vs2 ≡ insert_key same vs v → slice_get vs2 i ≡ Some k → same v k ≡ true → IsDistinct same vs2 → length vs2 ≤ 4294967295 → AreMarks vs2 (ms ++ (i + 1) ∷ [])
+some_added vs vs2 ms v k i h e at is apart few =
+    let way : (vs2 ≡ vs) ⊎ (vs2 ≡ vs ++ v ∷ []) = rw e (insert_cases vs v) in
+    record {
+      within = within_push (length vs2) ms (i + 1) (kept_within vs vs2 v ms h.within way) (omega (arith, slice_get_within vs2 i k at));
+      values_are = e ∙ ap (λ (l : List Value). insert_key same l v) h.values_are ∙ sym (different_some (map (marked vs) ms) v) ∙ ap different (sym (some_cells vs vs2 ms v k i h e at is));
+      apart = apart;
+      few = few;
+    }
+
+-- the cell at a place
+pub cell_none : (vs : List Value) (ms : List ℕ) (p : ℕ) → p < length ms → get_or ms p 0 ≡ 0 → get_or (map (marked vs) ms) p None ≡ None
+cell_none vs ms p lt e = get_or-map (marked vs) ms p 0 None lt ∙ ap (marked vs) e
+
+pub cell_some : (vs : List Value) (ms : List ℕ) (p m : ℕ) → p < length ms → get_or ms p 0 ≡ m → 0 < m → get_or (map (marked vs) ms) p None ≡ slice_get vs (m - 1)
+cell_some vs ms p zero lt e pos = absurd (omega arith)
+cell_some vs ms p (suc n) lt e pos = get_or-map (marked vs) ms p 0 None lt ∙ ap (marked vs) e ∙ ap (slice_get vs) (omega arith)
+
+-- the place of a value among values that differ
+at : (p : Value → Bool) (b : Bool) (x : Value) (xs : List Value) → p x ≡ b → position_or_len p (x ∷ xs) ≡ cond (not b) (1 + position_or_len p xs) 0
+at p b x xs e = ap (λ t. cond (not t) (1 + position_or_len p xs) 0) e
+
+far : (x : Value) (xs : List Value) (j : ℕ) (v : Value) → AllByRecursion (λ (y : Value). same x y ≡ false) xs → slice_get xs j ≡ Some v → same x v ≡ false
+far x [] j v h e = absurd (cc)
+far x (y ∷ ys) zero v h e = let is : y ≡ v = cc in subst (λ (k : Value). same x k ≡ false) is h.0
+far x (y ∷ ys) (suc j) v h e = far x ys j v h.1 e
+
+turned : (x v : Value) → same x v ≡ false → same v x ≡ false
+turned x v h = by (same v x) refl
+  where
+    by : (b : Bool) → same v x ≡ b → b ≡ false
+    by false e = refl
+    by true e = let is : v ≡ x = value_same v x e in absurd (true≢false (sym (same_refl x) ∙ subst (λ (k : Value). same x k ≡ false) is h))
+
+place_is : (ks : List Value) (i : ℕ) (v : Value) → IsDistinct same ks → slice_get ks i ≡ Some v → position_or_len (same v) ks ≡ i
+place_is [] i v d e = absurd (cc)
+place_is (x ∷ xs) zero v d e =
+    let is : x ≡ v = cc in
+    at (same v) true x xs (subst (λ (k : Value). same v k ≡ true) (sym is) (same_refl v))
+place_is (x ∷ xs) (suc j) v d e =
+    let rest : position_or_len (same v) xs ≡ j = place_is xs j v (IsDistinct-tail same x xs d) e in
+    at (same v) false x xs (turned x v (far x xs j v (IsDistinct-head same x xs d) e)) ∙ omega arith
+
+pub position_is : (ks : List Value) (i : ℕ) (v : Value) → IsDistinct same ks → slice_get ks i ≡ Some v → position (same v) ks ≡ Some i
+position_is ks i v d e =
+    let lt : i < length ks = slice_get_within ks i v e in
+    rw (place_is ks i v d e) (grind (arith, nat_tests))
+
+-- the number of a cell that is not missing
+number_by : (vs : List Value) (cells : List (Option Value)) (i : ℕ) (o : Option Value) → vs ≡ different cells → IsDistinct same vs → i < length vs → o ≡ slice_get vs i → Some i ≡ option_and_then (number_among cells) o
+number_by vs cells i None e d lt is = absurd (slice_none vs i lt (sym is))
+  where
+    slice_none : (xs : List Value) (j : ℕ) → j < length xs → slice_get xs j ≡ None → ⊥
+    slice_none [] j l n = absurd (omega arith)
+    slice_none (x ∷ xs) zero l n = cc
+    slice_none (x ∷ xs) (suc j) l n = slice_none xs j (omega arith) n
+number_by vs cells i (Some v) e d lt is = sym (rw (← e) (position_is vs i v d (sym is)))
+
+pub number_some : (vs : List Value) (ms : List ℕ) (p m : ℕ) → AreMarks vs ms → p < length ms → get_or ms p 0 ≡ m → 0 < m → Some (m - 1) ≡ option_and_then (number_among (map (marked vs) ms)) (get_or (map (marked vs) ms) p None)
+number_some vs ms p m h lt e pos =
+    number_by vs (map (marked vs) ms) (m - 1) (get_or (map (marked vs) ms) p None) h.values_are h.apart (omega (arith, within_at (length vs) ms p h.within lt, e)) (cell_some vs ms p m lt e pos)

@@ -1,0 +1,3 @@
+pub mod CellsLemmas
+pub mod FieldLemmas
+pub mod RowsLemmas

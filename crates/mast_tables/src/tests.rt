@@ -1,0 +1,153 @@
+use super::{Column, RowBreach, RowKind, Table, TableDecl, load};
+use mast_terms::{Date, Kind, List, NoMemory, Stop, Text, Value};
+use std::alloc::Global;
+use std::test::Fail;
+
+fn column(alloc: Global, name: &str, kind: Kind, null: bool) -> Result<Column, NoMemory> {
+    Ok(Column {
+        name: Text::from_str(alloc, name)?,
+        kind,
+        null,
+    })
+}
+
+// A table with a text column `name` that may be missing, an integer column `n` and a date column `d`.
+fn declared(alloc: Global) -> Result<TableDecl, NoMemory> {
+    let mut columns = List::new(alloc);
+    columns.push(alloc, column(alloc, "name", Kind::Text, true)?)?;
+    columns.push(alloc, column(alloc, "n", Kind::Integer, false)?)?;
+    columns.push(alloc, column(alloc, "d", Kind::Date, true)?)?;
+    Ok(TableDecl {
+        name: Text::from_str(alloc, "t")?,
+        file: Text::from_str(alloc, "t.csv")?,
+        columns,
+    })
+}
+
+// The number of rows of a file, or the number, the column and the kind of its breach.
+fn judged(
+    alloc: Global,
+    bytes: &[u8],
+    most: u32,
+) -> Result<Result<u32, (u32, u32, RowKind)>, NoMemory> {
+    if bytes.len() > 1000 {
+        return Err(NoMemory);
+    }
+    let decl = declared(alloc)?;
+    if decl.columns.as_slice().len() > 3 {
+        return Err(NoMemory);
+    }
+    match load(alloc, bytes, &decl, most) {
+        Ok(table) => Ok(Ok(table.rows())),
+        Err(Stop::Named(breach)) => Ok(Err((breach.number, breach.column, breach.kind))),
+        Err(Stop::NoMemory) => Err(NoMemory),
+    }
+}
+
+#[test]
+fn files_have_rows_or_a_breach(rt: HostRuntime) -> Result<(), Fail> {
+    let cases = [
+        (b"name,n,d\n".as_slice(), 9, Ok(0)),
+        (
+            b"\xEF\xBB\xBFname,n,d\n\n\"a,\"\"b\"\"\",007,2024-02-29\r\n,+7,\n".as_slice(),
+            9,
+            Ok(2),
+        ),
+        (b"name,n,d\nu,1,\nu,2,\nv,3,\n".as_slice(), 3, Ok(3)),
+        (b"".as_slice(), 9, Err((0, 1, RowKind::Header))),
+        (b"name,m,d\n".as_slice(), 9, Err((0, 2, RowKind::Header))),
+        (b"name,n\n".as_slice(), 9, Err((0, 3, RowKind::Header))),
+        (
+            b"name,n,d,e\nu\n".as_slice(),
+            9,
+            Err((0, 4, RowKind::Header)),
+        ),
+        (
+            b"\xEF\xBB\xBF\xEF\xBB\xBFname,n,d\n".as_slice(),
+            9,
+            Err((0, 1, RowKind::Header)),
+        ),
+        (
+            b"name,n,d\nu,1,\nu,2,\nv\n".as_slice(),
+            2,
+            Err((3, 0, RowKind::Rows)),
+        ),
+        (
+            b"name,n,d\nu,1,\nu,x,\nv\n".as_slice(),
+            2,
+            Err((2, 2, RowKind::BadInt)),
+        ),
+        (
+            b"name,n,d\nu,x\n".as_slice(),
+            9,
+            Err((1, 3, RowKind::Width)),
+        ),
+        (
+            b"name,n,d\nu,x,y,z\n".as_slice(),
+            9,
+            Err((1, 4, RowKind::Width)),
+        ),
+        (
+            b"name,n,d\n\"\"\n".as_slice(),
+            9,
+            Err((1, 2, RowKind::Width)),
+        ),
+        (
+            b"name,n,d\nu,\xFF,y\n".as_slice(),
+            9,
+            Err((1, 2, RowKind::NotUtf8)),
+        ),
+        (
+            b"name,n,d\n\xC3,,y\n".as_slice(),
+            9,
+            Err((1, 1, RowKind::NotUtf8)),
+        ),
+        (
+            b"name,n,d\nu,,y\n".as_slice(),
+            9,
+            Err((1, 2, RowKind::Missing)),
+        ),
+        (
+            b"name,n,d\nu,9223372036854775808,y\n".as_slice(),
+            9,
+            Err((1, 2, RowKind::BadInt)),
+        ),
+        (
+            b"name,n,d\nu,1,2023-02-29\n".as_slice(),
+            9,
+            Err((1, 3, RowKind::BadDate)),
+        ),
+        (
+            b"name,n,d\nu,-9223372036854775808,0001-01-01".as_slice(),
+            9,
+            Ok(1),
+        ),
+    ];
+    for (bytes, most, wanted) in cases {
+        assert_eq!(rt; judged(rt.alloc(), bytes, most)?, wanted);
+    }
+    Ok(())
+}
+
+#[test]
+fn equal_values_have_one_number(rt: HostRuntime) -> Result<(), Fail> {
+    let alloc = rt.alloc();
+    let decl = declared(alloc)?;
+    let table = load(
+        alloc,
+        b"name,n,d\nu,1,\n,1,2024-02-29\nu,2,2024-02-29\n",
+        &decl,
+        3,
+    )?;
+    assert_eq!(rt; table.number(1, 1), table.number(3, 1));
+    assert_eq!(rt; table.number(2, 1), None);
+    assert_eq!(rt; table.cell(2, 1), None);
+    assert_eq!(rt; table.cell(2, 2), Some(&Value::Int(1)));
+    assert_eq!(rt;
+        table.find(&Value::Text(Text::from_str(alloc, "u")?)),
+        table.number(1, 1)
+    );
+    assert_eq!(rt; table.find(&Value::Text(Text::from_str(alloc, "z")?)), None);
+    assert_eq!(rt; table.find(&Value::Int(2)), table.number(3, 2));
+    Ok(())
+}
