@@ -1,5 +1,5 @@
 -- The cells that a date column accepts: yyyy-mm-dd, for a day of the Gregorian calendar from 0001 to 9999.
-use Rattle.std.specs.Prelude.{◌≡◌, ℕ, ◌≤◌, ◌/◌, ◌%◌, ◌==◌, if◌then◌else◌, List, [], ◌∷◌, ◌++◌, length, take}
+use Rattle.std.specs.Prelude.{◌≡◌, ℕ, ◌+◌, ◌-◌, ◌*◌, ◌≤◌, ◌/◌, ◌%◌, ◌==◌, if◌then◌else◌, List, [], ◌∷◌, ◌++◌, length, take}
 use Rattle.mast_terms.specs.Cells.{IsLongestFront}
 use Rattle.mast_terms.specs.Printed.{two_digits, date_text}
 use Rattle.mast_terms.specs.declared.date.Date.{Date}
@@ -35,3 +35,11 @@ pub record NotShown (shown : ℕ → List ℕ) (least most : ℕ) (bytes : List 
   pub begins : (number : ℕ) × (least ≤ number) × (number ≤ most) × (more : List ℕ) × (take at bytes ++ more ≡ shown number)
   pub short : (number : ℕ) (more : List ℕ) → least ≤ number → number ≤ most → bytes ≡ shown number ++ more → ⊥
   pub longest : (n number : ℕ) (more rest : List ℕ) → n ≤ length bytes → least ≤ number → number ≤ most → take n bytes ++ more ≡ shown number ++ rest → n ≤ at
+
+-- the first digit of some number that is at most `most`
+abbrev pub BeginsNumber : ℕ → ℕ → Type 0
+BeginsNumber most tens = (48 ≤ tens) × (tens ≤ 48 + most / 10)
+
+-- the second digit of a number from `least` to `most`
+abbrev pub EndsNumber : ℕ → ℕ → ℕ → ℕ → Type 0
+EndsNumber least most tens ones = (48 ≤ ones) × (ones ≤ 57) × (least ≤ 10 * (tens - 48) + (ones - 48)) × (10 * (tens - 48) + (ones - 48) ≤ most)

@@ -1,8 +1,8 @@
 //! Cells of date columns.
-ghost use Rattle.std.specs.Prelude.{◌≡◌, ◌+◌, ◌≤◌, ◌++◌, drop, length, IfOk, IfErr};
+ghost use Rattle.std.specs.Prelude.{◌≡◌, ◌+◌, ◌-◌, ◌*◌, ◌≤◌, ◌↔◌, ◌∷◌, ◌++◌, drop, length, IsTrue, IfOk, IfErr};
 ghost use Rattle.mast_terms.specs.Calendar.{IsDay, days_of};
 ghost use Rattle.mast_terms.specs.Cells.{IsLongestFront};
-ghost use Rattle.mast_terms.specs.DateCell.{IsDateText, After, Stops, NotShown, year_text, dashed, least_in_century};
+ghost use Rattle.mast_terms.specs.DateCell.{IsDateText, After, Stops, NotShown, BeginsNumber, EndsNumber, year_text, dashed, least_in_century};
 ghost use Rattle.mast_terms.specs.Printed.{two_digits, date_text};
 
 use crate::Date;
@@ -20,6 +20,8 @@ pub struct BadDate {
 /// It is refused exactly where the cell is the text of no date, and takes no memory.
 pub fn read_date(bytes: &[u8]) -> Result<Date, BadDate>
     ensures accepts { IfOk result (λ date. bytes.now ≡ date_text date) }
+    ensures refuses { IfErr result (λ bad. IsDateText bytes.now → ⊥) }
+    ensures at { IfErr result (λ bad. IsLongestFront IsDateText bytes.now bad.at) }
 {
     match read_century(bytes) {
         Ok(date) => Ok(date),
@@ -30,12 +32,14 @@ pub fn read_date(bytes: &[u8]) -> Result<Date, BadDate>
 // A whole cell.
 fn read_century(bytes: &[u8]) -> Result<Date, usize>
     ensures accepts { IfOk result (λ date. bytes.now ≡ date_text date) }
-    ensures within { IfErr result (λ at. at ≤ length bytes.now) }
+    ensures stops { IfErr result (λ at. Stops IsDateText bytes.now at) }
 {
-    let century = read_two_digits(bytes, 0, 99)?;
-    match read_year(&bytes[2..], century) {
-        Ok(date) => Ok(date),
-        Err(at) => Err(2 + at),
+    match read_two_digits(bytes, 0, 99) {
+        Err(at) => Err(at),
+        Ok(century) => match read_year(&bytes[2..], century) {
+            Ok(date) => Ok(date),
+            Err(at) => Err(2 + at),
+        },
     }
 }
 
@@ -43,14 +47,25 @@ fn read_century(bytes: &[u8]) -> Result<Date, usize>
 fn read_year(bytes: &[u8], century: u8) -> Result<Date, usize>
     requires { century ≤ 99 }
     ensures accepts { IfOk result (λ date. two_digits century ++ bytes.now ≡ date_text date) }
-    ensures within { IfErr result (λ at. at ≤ length bytes.now) }
+    ensures stops { IfErr result (λ at. Stops (After (two_digits century)) bytes.now at) }
 {
-    let least = if century == 0 { 1 } else { 0 };
-    let year = read_two_digits(bytes, least, 99)?;
-    match read_month(&bytes[2..], u16::from(century) * 100 + u16::from(year)) {
-        Ok(date) => Ok(date),
-        Err(at) => Err(2 + at),
+    match read_two_digits(bytes, least_year(century), 99) {
+        Err(at) => Err(at),
+        Ok(year) => {
+            match read_month(&bytes[2..], u16::from(century) * 100 + u16::from(year)) {
+                Ok(date) => Ok(date),
+                Err(at) => Err(2 + at),
+            }
+        }
     }
+}
+
+// The least number that may follow the century.
+fn least_year(century: u8) -> u8
+    ensures least { result ≡ least_in_century century }
+    ensures small { result ≤ 1 }
+{
+    if century == 0 { 1 } else { 0 }
 }
 
 // What follows the year.
@@ -58,12 +73,14 @@ fn read_month(bytes: &[u8], year: u16) -> Result<Date, usize>
     requires from { 1 ≤ year }
     requires to { year ≤ 9999 }
     ensures accepts { IfOk result (λ date. year_text year ++ bytes.now ≡ date_text date) }
-    ensures within { IfErr result (λ at. at ≤ length bytes.now) }
+    ensures stops { IfErr result (λ at. Stops (After (year_text year)) bytes.now at) }
 {
-    let month = read_dashed(bytes, 12)?;
-    match read_day(&bytes[3..], year, month) {
-        Ok(date) => Ok(date),
-        Err(at) => Err(3 + at),
+    match read_dashed(bytes, 12) {
+        Err(at) => Err(at),
+        Ok(month) => match read_day(&bytes[3..], year, month) {
+            Ok(date) => Ok(date),
+            Err(at) => Err(3 + at),
+        },
     }
 }
 
@@ -74,23 +91,25 @@ fn read_day(bytes: &[u8], year: u16, month: u8) -> Result<Date, usize>
     requires month_from { 1 ≤ month }
     requires month_to { month ≤ 12 }
     ensures accepts { IfOk result (λ date. year_text year ++ dashed month ++ bytes.now ≡ date_text date) }
-    ensures within { IfErr result (λ at. at ≤ length bytes.now) }
+    ensures stops { IfErr result (λ at. Stops (After (year_text year ++ dashed month)) bytes.now at) }
 {
-    let day = read_dashed(bytes, days_in_month(year, month))?;
-    if bytes.len() > 3 {
-        return Err(3);
+    match read_dashed(bytes, days_in_month(year, month)) {
+        Err(at) => Err(at),
+        Ok(day) => {
+            let date = Date { year, month, day };
+            if bytes.len() > 3 { Err(3) } else { Ok(date) }
+        }
     }
-    Ok(Date { year, month, day })
 }
 
 // A dash and a number of two digits from 1 on.
 fn read_dashed(bytes: &[u8], most: u8) -> Result<u8, usize>
     requires large { 9 ≤ most }
     requires small { most ≤ 99 }
-    ensures within { IfErr result (λ at. at ≤ length bytes.now) }
     ensures least { IfOk result (λ number. 1 ≤ number) }
     ensures most { IfOk result (λ number. number ≤ most) }
     ensures shown { IfOk result (λ number. bytes.now ≡ dashed number ++ drop 3 bytes.now) }
+    ensures stops { IfErr result (λ at. NotShown dashed 1 most bytes.now at) }
 {
     match bytes {
         [] => Err(0),
@@ -111,32 +130,59 @@ fn read_two_digits(bytes: &[u8], least: u8, most: u8) -> Result<u8, usize>
     requires least { least ≤ 1 }
     requires large { 9 ≤ most }
     requires small { most ≤ 99 }
-    ensures within { IfErr result (λ at. at ≤ length bytes.now) }
     ensures least { IfOk result (λ number. least ≤ number) }
     ensures most { IfOk result (λ number. number ≤ most) }
     ensures shown { IfOk result (λ number. bytes.now ≡ two_digits number ++ drop 2 bytes.now) }
+    ensures stops { IfErr result (λ at. NotShown two_digits least most bytes.now at) }
 {
     match bytes {
         [] => Err(0),
-        [tens] => {
-            if tens.is_ascii_digit() && *tens - b'0' <= most / 10 {
-                Err(1)
+        [tens, rest @ ..] => {
+            if begins_number(*tens, most) {
+                read_last_digit(rest, *tens, least, most)
             } else {
                 Err(0)
             }
         }
-        [tens, ones, ..] => {
-            if !tens.is_ascii_digit() || *tens - b'0' > most / 10 {
-                return Err(0);
+    }
+}
+
+// The second digit of a number.
+fn read_last_digit(bytes: &[u8], tens: u8, least: u8, most: u8) -> Result<u8, usize>
+    requires least { least ≤ 1 }
+    requires large { 9 ≤ most }
+    requires small { most ≤ 99 }
+    requires tens { BeginsNumber most tens }
+    ensures least { IfOk result (λ number. least ≤ number) }
+    ensures most { IfOk result (λ number. number ≤ most) }
+    ensures shown { IfOk result (λ number. tens ∷ bytes.now ≡ two_digits number ++ drop 1 bytes.now) }
+    ensures stops { IfErr result (λ at. NotShown two_digits least most (tens ∷ bytes.now) at) }
+{
+    match bytes {
+        [] => Err(1),
+        [ones, ..] => {
+            if ends_number(tens, *ones, least, most) {
+                Ok(10 * (tens - b'0') + (*ones - b'0'))
+            } else {
+                Err(1)
             }
-            if !ones.is_ascii_digit() {
-                return Err(1);
-            }
-            let number = 10 * (*tens - b'0') + (*ones - b'0');
-            if number < least || number > most {
-                return Err(1);
-            }
-            Ok(number)
         }
     }
+}
+
+fn begins_number(tens: u8, most: u8) -> bool
+    requires { most ≤ 99 }
+    ensures { IsTrue result ↔ BeginsNumber most tens }
+{
+    tens >= b'0' && tens <= b'0' + most / 10
+}
+
+fn ends_number(tens: u8, ones: u8, least: u8, most: u8) -> bool
+    requires most { most ≤ 99 }
+    requires tens { BeginsNumber most tens }
+    ensures { IsTrue result ↔ EndsNumber least most tens ones }
+{
+    ones.is_ascii_digit()
+        && least <= 10 * (tens - b'0') + (ones - b'0')
+        && 10 * (tens - b'0') + (ones - b'0') <= most
 }
