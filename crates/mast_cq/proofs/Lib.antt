@@ -1,0 +1,10 @@
+pub mod SortLemmas
+pub mod ContentLemmas
+pub mod MeetingLemmas
+pub mod PutLemmas
+pub mod OrderLemmas
+pub mod AloneLemmas
+pub mod SettleLemmas
+pub mod SameTuplesLemmas
+pub mod JoinLemmas
+pub mod PartsLemmas

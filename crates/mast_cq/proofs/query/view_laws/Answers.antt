@@ -1,0 +1,5 @@
+use Rattle.mast_cq.proofs.ContentLemmas.{both_law}
+use Rattle.mast_cq.proofs.query.view_laws.Goals as goal
+
+pub returns-clause-equal : goal.returns-clause-equal
+returns-clause-equal c = λ q r. both_law _ _ c.arg_laws.ensures.equal c.atom_laws.ensures.equal _ _ _ _

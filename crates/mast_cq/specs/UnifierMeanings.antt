@@ -1,0 +1,69 @@
+-- What unification means: an assignment that makes two atoms one fact, and the atom that they become.
+use Rattle.std.specs.Prelude.{◌≡◌, ℕ, ◌<◌, Option, Some}
+use Rattle.mast_cq.specs.declared.atom.Arg.{Arg}
+use Rattle.mast_cq.specs.declared.atom.Arg.TheVariants.{Blank, Var, Constant}
+use Rattle.mast_cq.specs.declared.atom.Atom.{Atom}
+use Rattle.mast_cq.specs.declared.atom.Atom.TheVariants.{Class, Role, Attr}
+use Rattle.mast_cq.specs.Meanings.{Fact, Match}
+use Rattle.mast_cq.specs.Unification.{Replacement, replace, Meeting}
+
+-- the argument is no `_`, and stands for the term
+abbrev pub Stands : {X : Type 0} → (ℕ → X) → (ℕ → X) → Arg → X → Type 0
+Stands constant s Blank t = ⊥
+Stands constant s (Var x) t = t ≡ s x
+Stands constant s (Constant c) t = t ≡ constant c
+
+-- the assignment respects the replacement: what a variable becomes stands for what the variable stands for
+abbrev pub Respects : {X : Type 0} → (ℕ → X) → (ℕ → X) → Replacement → Type 0
+Respects constant s r = (n : ℕ) → Stands constant s (r n) (s n)
+
+-- there is a meeting whose replacement the assignment respects, and the fact is its atom
+pub record Joined {X : Type 0} (constant : ℕ → X) (s : ℕ → X) (f : Fact X) (o : Option Meeting) : Type 0 where
+  pub by : Meeting
+  pub is : o ≡ Some by
+  pub respects : Respects constant s by.replacement
+  pub matches : Match constant s by.atom f
+
+-- P holds of the constants of an argument, and of an atom
+abbrev pub KnownArg : (ℕ → Type 0) → Arg → Type 0
+KnownArg P Blank = Unit {0}
+KnownArg P (Var x) = Unit {0}
+KnownArg P (Constant c) = P c
+
+abbrev pub KnownAtom : (ℕ → Type 0) → Atom → Type 0
+KnownAtom P (Class a x) = KnownArg P x
+KnownAtom P (Role a x y) = KnownArg P x × KnownArg P y
+KnownAtom P (Attr a x y) = KnownArg P x × KnownArg P y
+
+-- the argument is no `_`
+abbrev pub IsProper : Arg → Type 0
+IsProper Blank = ⊥
+IsProper (Var x) = Unit {0}
+IsProper (Constant c) = Unit {0}
+
+-- no variable becomes `_`
+abbrev pub Proper : Replacement → Type 0
+Proper r = (n : ℕ) → IsProper (r n)
+
+-- what the argument stands for; a `_` for the term that is given
+abbrev pub value : {X : Type 0} → (ℕ → X) → X → (ℕ → X) → Arg → X
+value constant d s Blank = d
+value constant d s (Var x) = s x
+value constant d s (Constant c) = constant c
+
+-- the assignment before the replacement: a variable stands for what it becomes
+abbrev pub before : {X : Type 0} → (ℕ → X) → (ℕ → X) → Replacement → ℕ → X
+before constant s r n = value constant (s n) s (r n)
+
+-- no variable becomes `_`, and what the meeting's atom is, both atoms are after the replacement
+pub record Parts {X : Type 0} (constant : ℕ → X) (g h : Atom) (m : Meeting) : Type 0 where
+  pub proper : Proper m.replacement
+  pub splits : (s : ℕ → X) (f : Fact X) → Match constant s m.atom f → Match constant s (replace m.replacement g) f × Match constant s (replace m.replacement h) f
+
+-- the number is less than the bound
+abbrev pub IsBelow : ℕ → ℕ → Type 0
+IsBelow bound c = c < bound
+
+-- different constants with numbers below the bound stand for different terms
+abbrev pub AreApart : {X : Type 0} → (ℕ → X) → ℕ → Type 0
+AreApart constant bound = (c d : ℕ) → IsBelow bound c → IsBelow bound d → constant c ≡ constant d → c ≡ d
