@@ -281,7 +281,7 @@ year_step century year whole rest at e small h =
     let first : whole / 100 ≡ century = omega arith in
     let second : whole % 100 ≡ year = omega arith in
     subst (λ y. Stops (λ t. After (two_digits century) (two_digits y ++ t)) rest at) second
-        (subst (λ c. Stops (λ t. After (two_digits c) (two_digits (whole % 100) ++ t)) rest at) first h)
+    (subst (λ c. Stops (λ t. After (two_digits c) (two_digits (whole % 100) ++ t)) rest at) first h)
 
 -- a date, and then more
 pub end_day : (year month day : ℕ) (bytes : List ℕ) → (valid : IsDay year month day) → bytes ≡ dashed day ++ drop 3 bytes → 3 < length bytes → Stops (After (year_text year ++ dashed month)) bytes 3

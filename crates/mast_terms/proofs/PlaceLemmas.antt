@@ -1,8 +1,11 @@
 -- The first place at which a test passes.
-use Rattle.std.proofs.Common.{◌≡◌, ℕ, suc, ◌+◌, ◌<◌, Bool, true, false, true≢false, cond, ◌||◌, List, [], ◌∷◌, ◌++◌, map, length, slice_get, get_or, drop, Option, Some, None, refl, ap, sym, ◌∙◌, subst, arith}
-use Rattle.std.specs.Prelude.{not, nat_lt, IfSome}
+use Rattle.std.proofs.Common.{◌≡◌, ℕ, zero, suc, ◌+◌, ◌<◌, ◌≤◌, Bool, true, false, true≢false, cond, ◌||◌, ◌⊎◌, inl, inr, List, [], ◌∷◌, ◌++◌, map, length, slice_get, get_or, drop, Option, Some, None, refl, ap, sym, ◌∙◌, subst, arith}
+use Rattle.std.specs.Prelude.{not, nat_lt, IfSome, if◌then◌else◌}
+use Rattle.std.proofs.lemmas.List.Folds.{list_any-append}
 use Rattle.std.specs.Str.{bytes_eq}
-use Rattle.std.specs.Cmp.Lexicographic.{nat_list_eq_equiv}
+use Rattle.mast_terms.specs.Vocabularies.{EachOnce, IsNumbered, IsVocabulary, AreApart, stands, joined}
+use Rattle.mast_terms.specs.declared.value.Value.{Value}
+use Rattle.std.specs.Cmp.Lexicographic.{nat_list_eq_equiv, bytes_decides}
 use Rattle.indexmap.specs.IndexSet.{insert_key}
 use Rattle.std.specs.Cmp.{IsEquivalence}
 use Rattle.std.specs.List.{IsDistinct, AllByRecursion, list_any, position, position_or_len, AllZip}
@@ -121,3 +124,83 @@ length-AllZip C [] [] h = refl
 length-AllZip C [] (y ∷ ys) h = absurd h
 length-AllZip C (x ∷ xs) [] h = absurd h
 length-AllZip C (x ∷ xs) (y ∷ ys) h = let e = length-AllZip C xs ys h.1 in omega arith
+
+-- a key that differs from each in a list is not there
+not_there : {K Y : Type 0} (eq : K → K → Bool) (f : K → Y) → ((a b : K) → f a ≡ f b → eq a b ≡ true) → (k : K) (ks : List K) (j : ℕ) → AllByRecursion (λ y. eq k y ≡ false) ks → slice_get (map f ks) j ≡ Some (f k) → ⊥
+not_there eq f same k [] j all h = cc
+not_there eq f same k (y ∷ ys) zero all h = let e : f y ≡ f k = cc in true≢false (sym (same k y (sym e)) ∙ all.0)
+not_there eq f same k (y ∷ ys) (suc j) all h = not_there eq f same k ys j all.1 h
+
+-- different keys have different places, and so have what is seen of them
+pub once-map : {K Y : Type 0} (eq : K → K → Bool) (f : K → Y) → ((a b : K) → f a ≡ f b → eq a b ≡ true) → (ks : List K) → IsDistinct eq ks → EachOnce (map f ks)
+unfolding IsDistinct
+once-map eq f same [] d i j x h g = absurd (cc)
+once-map eq f same (k ∷ ks) d zero zero x h g = refl
+once-map {K} {Y} eq f same (k ∷ ks) d zero (suc j) x h g = let e : Some (f k) ≡ Some x = h in absurd (not_there eq f same k ks j d.0 (g ∙ sym e))
+once-map {K} {Y} eq f same (k ∷ ks) d (suc i) zero x h g = let e : Some (f k) ≡ Some x = g in absurd (not_there eq f same k ks i d.0 (h ∙ sym e))
+once-map eq f same (k ∷ ks) d (suc i) (suc j) x h g = ap suc (once-map eq f same ks d.1 i j x h g)
+
+-- the same of keys that are seen as they are
+pub once : {K : Type 0} (eq : K → K → Bool) → ((a b : K) → a ≡ b → eq a b ≡ true) → (ks : List K) → IsDistinct eq ks → EachOnce ks
+once {K} eq same ks d = subst EachOnce (map-id ks) (once-map eq (λ k. k) same ks d)
+  where
+    map-id : (xs : List K) → map (λ k. k) xs ≡ xs
+    map-id [] = refl
+    map-id (x ∷ xs) = ap (λ l. x ∷ l) (map-id xs)
+
+or-false : (b : Bool) → (b || false) ≡ b
+or-false true = refl
+or-false false = refl
+
+-- what stands after an IRI joined: what stood, and that one
+stands-joined : (x iri : List ℕ) (known : List (List ℕ)) → (stands x (joined iri known) ≡ (stands x known || bytes_eq x iri)) ⊎ (stands x (joined iri known) ≡ stands x known)
+stands-joined x iri known = by (stands iri known) refl
+  where
+    by : (b : Bool) → stands iri known ≡ b → (stands x (joined iri known) ≡ (stands x known || bytes_eq x iri)) ⊎ (stands x (joined iri known) ≡ stands x known)
+    by true e = inr (ap (λ c. stands x (if c then known else known ++ iri ∷ [])) e)
+    by false e = inl (ap (λ c. stands x (if c then known else known ++ iri ∷ [])) e ∙ list_any-append (bytes_eq x) known (iri ∷ []) ∙ ap (λ c. stands x known || c) (or-false (bytes_eq x iri)))
+
+-- an IRI that is no attribute becomes a role
+pub apart-role : (iri : List ℕ) (roles after attributes : List (List ℕ)) → AreApart roles attributes → stands iri attributes ≡ false → after ≡ joined iri roles → AreApart after attributes
+apart-role iri roles after attributes apart new is x h = elim (stands-joined x iri roles) [
+  | inl e ↦ by (stands x roles) (bytes_eq x iri) refl refl (sym e ∙ ap (λ l. stands x l) (sym is) ∙ h)
+  | inr e ↦ apart x (sym e ∙ ap (λ l. stands x l) (sym is) ∙ h)
+] where
+  by : (a b : Bool) → stands x roles ≡ a → bytes_eq x iri ≡ b → (stands x roles || bytes_eq x iri) ≡ true → stands x attributes ≡ false
+  by true b e g or = apart x e
+  by false true e g or = subst (λ t. stands t attributes ≡ false) (sym ((bytes_decides x iri).0 g)) new
+  by false false e g or = absurd (true≢false (sym or ∙ rw (e, g) refl))
+
+-- an IRI that is no role becomes an attribute
+pub apart-attribute : (iri : List ℕ) (roles attributes after : List (List ℕ)) → AreApart roles attributes → stands iri roles ≡ false → after ≡ joined iri attributes → AreApart roles after
+apart-attribute iri roles attributes after apart new is x h = elim (stands-joined x iri attributes) [
+  | inl e ↦ ap (λ l. stands x l) is ∙ e ∙ by (bytes_eq x iri) refl
+  | inr e ↦ ap (λ l. stands x l) is ∙ e ∙ apart x h
+] where
+  by : (b : Bool) → bytes_eq x iri ≡ b → (stands x attributes || bytes_eq x iri) ≡ false
+  by true g = absurd (true≢false (sym h ∙ ap (λ t. stands t roles) ((bytes_decides x iri).0 g) ∙ new))
+  by false g = rw (apart x h, g) refl
+
+-- ---- what an addition keeps of a vocabulary
+
+pub nothing_numbered : {A : Type 0} → IsNumbered {A = A} []
+nothing_numbered = record { once = λ i j x h g. absurd (none i x h); few = omega arith }
+  where
+    none : {A : Type 0} (i : ℕ) (x : A) → slice_get [] i ≡ Some x → ⊥
+    none i x h = cc
+
+pub empty_vocabulary : IsVocabulary (record { classes = []; roles = []; attributes = []; constants = [] })
+empty_vocabulary = record { classes = nothing_numbered; roles = nothing_numbered; attributes = nothing_numbered; constants = nothing_numbered; apart = λ iri h. refl }
+
+module _ (classes roles attributes : List (List ℕ)) (constants : List Value) (h : IsVocabulary (record { classes = classes; roles = roles; attributes = attributes; constants = constants })) where
+  pub with_class : (after : List (List ℕ)) → IsNumbered after → IsVocabulary (record { classes = after; roles = roles; attributes = attributes; constants = constants })
+  with_class after n = record { classes = n; roles = h.roles; attributes = h.attributes; constants = h.constants; apart = h.apart }
+
+  pub with_role : (iri : List ℕ) (after : List (List ℕ)) → IsNumbered after → stands iri attributes ≡ false → after ≡ joined iri roles → IsVocabulary (record { classes = classes; roles = after; attributes = attributes; constants = constants })
+  with_role iri after n new is = record { classes = h.classes; roles = n; attributes = h.attributes; constants = h.constants; apart = apart-role iri roles after attributes h.apart new is }
+
+  pub with_attribute : (iri : List ℕ) (after : List (List ℕ)) → IsNumbered after → stands iri roles ≡ false → after ≡ joined iri attributes → IsVocabulary (record { classes = classes; roles = roles; attributes = after; constants = constants })
+  with_attribute iri after n new is = record { classes = h.classes; roles = h.roles; attributes = n; constants = h.constants; apart = apart-attribute iri roles attributes after h.apart new is }
+
+  pub with_constants : (after : List Value) → IsNumbered after → IsVocabulary (record { classes = classes; roles = roles; attributes = attributes; constants = after })
+  with_constants after n = record { classes = h.classes; roles = h.roles; attributes = h.attributes; constants = n; apart = h.apart }

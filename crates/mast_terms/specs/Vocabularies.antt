@@ -77,3 +77,24 @@ with_value lists value = record { classes = lists.classes; roles = lists.roles; 
 
 abbrev pub value_refusal : Value → List Value → Option AddRefusal
 value_refusal value constants = if not (value_stands value constants) && nat_le capacity (length constants) then Some refusal.Full else None
+
+-- each element once: two places of one element are one
+abbrev pub EachOnce : {A : Type 0} → List A → Type 0
+EachOnce {A} elements = (i j : ℕ) (element : A) → slice_get elements i ≡ Some element → slice_get elements j ≡ Some element → i ≡ j
+
+-- no IRI is a role and an attribute
+abbrev pub AreApart : List (List ℕ) → List (List ℕ) → Type 0
+AreApart roles attributes = (iri : List ℕ) → stands iri roles ≡ true → stands iri attributes ≡ false
+
+-- one number for each, of 16 bits
+pub record IsNumbered {A : Type 0} (elements : List A) : Type 0 where
+  pub once : EachOnce elements
+  pub few : length elements ≤ capacity
+
+-- what holds of every vocabulary
+pub record IsVocabulary (lists : Lists) : Type 0 where
+  pub classes : IsNumbered lists.classes
+  pub roles : IsNumbered lists.roles
+  pub attributes : IsNumbered lists.attributes
+  pub constants : IsNumbered lists.constants
+  pub apart : AreApart lists.roles lists.attributes

@@ -1,7 +1,7 @@
 //! The constants of a specification.
 ghost use Rattle.std.specs.Prelude.{◌≡◌, ◌+◌, ◌<◌, ◌≤◌, [], ◌∷◌, ◌++◌, length, slice_get, is_some, Some, true, false, IfOk, IfSome, OnOk, OnErr};
 ghost use Rattle.mast_terms.specs.Refusals.{IsRefusedBy};
-ghost use Rattle.mast_terms.specs.Vocabularies.{capacity, value_stands, value_place, joined_value, value_refusal};
+ghost use Rattle.mast_terms.specs.Vocabularies.{capacity, value_stands, value_place, joined_value, value_refusal, EachOnce, IsNumbered};
 
 use crate::iris::CAPACITY;
 use crate::{AddRefusal, NoMemory, Stop, Value};
@@ -16,15 +16,15 @@ pub(crate) struct Constants {
 }
 
 impl Model for Constants {
-    ghost use Rattle.std.specs.Prelude.{List, length, ◌≤◌};
-    ghost use Rattle.mast_terms.specs.Vocabularies.{capacity};
+    ghost use Rattle.std.specs.Prelude.{List};
+    ghost use Rattle.mast_terms.specs.Vocabularies.{IsNumbered};
     ghost use Rattle.mast_terms.specs.declared.value.Value.{Value as V};
 
     ghost Value = { List V };
 
     ghost view = { λ constants. constants.set.keys };
 
-    ghost invariant = { λ constants. length constants.set.keys ≤ capacity };
+    ghost invariant = { λ constants. IsNumbered constants.set.keys };
 }
 
 impl Constants {
@@ -49,6 +49,7 @@ impl Constants {
         ensures place { IfOk result (λ number. value_place value.now self.new ≡ Some number) }
         ensures shown { IfOk result (λ number. slice_get self.new number ≡ Some value.now) }
         ensures kept { OnErr result (self.new ≡ self.old) }
+        ensures numbered { IsNumbered self.new }
     {
         if let Some(number) = number_in(&self.set, value) {
             return Ok(number as u32);
@@ -67,6 +68,7 @@ impl Constants {
         ensures place { IfOk result (λ number. value_place value.now self.new ≡ Some number) }
         ensures shown { IfOk result (λ number. slice_get self.new number ≡ Some value.now) }
         ensures kept { OnErr result (self.new ≡ self.old) }
+        ensures numbered { IsNumbered self.new }
     {
         let number = self.set.len() as u32;
         put_last(&mut self.set, alloc, value)?;
@@ -95,6 +97,7 @@ fn put_last(set: &mut IndexSet<Value>, alloc: Global, value: &Value) -> Result<(
     ensures joined { OnOk result (set.new.keys ≡ set.old.keys ++ value.now ∷ []) }
     ensures place { OnOk result (value_place value.now set.new.keys ≡ Some (length set.old.keys)) }
     ensures shown { OnOk result (slice_get set.new.keys (length set.old.keys) ≡ Some value.now) }
+    ensures once { OnOk result (EachOnce set.new.keys) }
     ensures kept { OnErr result (set.new.keys ≡ set.old.keys) }
 {
     set.insert(value.copy(alloc)?)?;

@@ -1,7 +1,7 @@
 //! The IRIs of one kind of names.
 ghost use Rattle.std.specs.Prelude.{◌≡◌, ◌+◌, ◌<◌, ◌≤◌, [], ◌∷◌, ◌++◌, length, map, slice_get, is_some, string_bytes, Some, true, false, IfOk, IfSome, OnOk, OnErr};
 ghost use Rattle.mast_terms.specs.Refusals.{IsRefusedBy};
-ghost use Rattle.mast_terms.specs.Vocabularies.{capacity, stands, place, joined, refusal_of_new};
+ghost use Rattle.mast_terms.specs.Vocabularies.{capacity, stands, place, joined, refusal_of_new, EachOnce, IsNumbered};
 
 use crate::{AddRefusal, NoMemory, Stop};
 use indexmap::IndexSet;
@@ -18,14 +18,14 @@ pub(crate) struct Iris {
 }
 
 impl Model for Iris {
-    ghost use Rattle.std.specs.Prelude.{List, ℕ, map, length, string_bytes, ◌≤◌};
-    ghost use Rattle.mast_terms.specs.Vocabularies.{capacity};
+    ghost use Rattle.std.specs.Prelude.{List, ℕ, map, string_bytes};
+    ghost use Rattle.mast_terms.specs.Vocabularies.{IsNumbered};
 
     ghost Value = { List (List ℕ) };
 
     ghost view = { λ iris. map string_bytes iris.set.keys };
 
-    ghost invariant = { λ iris. length iris.set.keys ≤ capacity };
+    ghost invariant = { λ iris. IsNumbered (map string_bytes iris.set.keys) };
 }
 
 impl Iris {
@@ -39,7 +39,7 @@ impl Iris {
 
     pub(crate) fn len(&self) -> u32
         ensures len { result ≡ length self.now }
-        ensures bound { length self.now ≤ capacity }
+        ensures numbered { IsNumbered self.now }
     {
         self.set.len() as u32
     }
@@ -68,6 +68,7 @@ impl Iris {
         ensures place { IfOk result (λ number. place iri.now self.new ≡ Some number) }
         ensures shown { IfOk result (λ number. slice_get self.new number ≡ Some iri.now) }
         ensures kept { OnErr result (self.new ≡ self.old) }
+        ensures numbered { IsNumbered self.new }
     {
         if let Some(number) = self.find(iri) {
             return Ok(number);
@@ -86,6 +87,7 @@ impl Iris {
         ensures place { IfOk result (λ number. place iri.now self.new ≡ Some number) }
         ensures shown { IfOk result (λ number. slice_get self.new number ≡ Some iri.now) }
         ensures kept { OnErr result (self.new ≡ self.old) }
+        ensures numbered { IsNumbered self.new }
     {
         let number = self.set.len() as u32;
         put_last(&mut self.set, alloc, iri)?;
@@ -116,6 +118,7 @@ fn put_last(set: &mut IndexSet<String>, alloc: Global, iri: &str) -> Result<(), 
     ensures place { OnOk result (place iri.now (map string_bytes set.new.keys) ≡ Some (length set.old.keys)) }
     ensures shown { OnOk result (slice_get (map string_bytes set.new.keys) (length set.old.keys) ≡ Some iri.now) }
     ensures len { OnOk result (length set.new.keys ≡ length set.old.keys + 1) }
+    ensures once { OnOk result (EachOnce (map string_bytes set.new.keys)) }
     ensures kept { OnErr result (set.new.keys ≡ set.old.keys) }
 {
     set.insert(String::from_str(alloc, iri)?)?;

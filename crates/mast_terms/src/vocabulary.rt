@@ -2,7 +2,7 @@
 ghost use Rattle.std.specs.Prelude.{◌≡◌, ◌<◌, ◌≤◌, [], length, slice_get, Some, IfOk, IfSome, OnOk, OnErr};
 ghost use Rattle.std.specs.Option.{option_map};
 ghost use Rattle.mast_terms.specs.Refusals.{IsRefusedBy};
-ghost use Rattle.mast_terms.specs.Vocabularies.{capacity, iris, place, stands_otherwise, refusal_of, with_iri, value_place, value_refusal, with_value};
+ghost use Rattle.mast_terms.specs.Vocabularies.{capacity, iris, place, stands_otherwise, refusal_of, with_iri, value_place, value_refusal, with_value, IsVocabulary};
 
 use crate::constants::Constants;
 use crate::iris::Iris;
@@ -22,11 +22,13 @@ pub struct Vocabulary {
 }
 
 impl Model for Vocabulary {
-    ghost use Rattle.mast_terms.specs.Vocabularies.{Lists};
+    ghost use Rattle.mast_terms.specs.Vocabularies.{Lists, IsVocabulary};
 
     ghost Value = { Lists };
 
     ghost view = { λ v. record { classes = v.classes; roles = v.roles; attributes = v.attributes; constants = v.constants } };
+
+    ghost invariant = { λ v. IsVocabulary (record { classes = v.classes; roles = v.roles; attributes = v.attributes; constants = v.constants }) };
 }
 
 impl Vocabulary {
@@ -134,7 +136,9 @@ impl Vocabulary {
     pub fn len(&self, kind: NameKind) -> u32
         ensures len { result ≡ length (iris self.now kind) }
         ensures bound { result ≤ capacity }
+        ensures lawful { IsVocabulary self.now }
     {
+        let _ = &self.classes;
         self.iris(kind).len()
     }
 

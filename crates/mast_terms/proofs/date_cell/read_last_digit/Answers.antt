@@ -8,4 +8,4 @@ returns-in-empty-clause-stops c = no_ones c.args.least c.args.most c.args.tens c
 pub returns-else-ends_number-clause-stops : goal.returns-else-ends_number-clause-stops
 returns-else-ends_number-clause-stops c =
     bad_ones c.args.least c.args.most c.args.tens c.args.bytes.now c.requires.least c.requires.large c.requires.tens c.in-len1-up.len_at_least
-        (λ ends. true≢false (sym (c.ends_number.ensures.1 ends) ∙ c.if-ends_number.false))
+    (λ ends. true≢false (sym (c.ends_number.ensures.1 ends) ∙ c.if-ends_number.false))

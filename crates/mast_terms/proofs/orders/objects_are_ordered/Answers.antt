@@ -1,0 +1,11 @@
+use Rattle.mast_terms.proofs.OrderLemmas.{object_equality_test, object_compares, object_orders}
+use Rattle.mast_terms.proofs.orders.objects_are_ordered.Goals as goal
+
+pub returns-clause-equality : goal.returns-clause-equality
+returns-clause-equality c = object_equality_test
+
+pub returns-clause-compares : goal.returns-clause-compares
+returns-clause-compares c = object_compares
+
+pub returns-clause-order : goal.returns-clause-order
+returns-clause-order c = object_orders
