@@ -1,11 +1,10 @@
 -- Reading a date part by part: where a part ends, and what it tells of the whole.
-use Rattle.std.proofs.Common.{◌≡◌, ℕ, zero, suc, ◌+◌, ◌*◌, ◌-◌, ◌/◌, ◌%◌, ◌<◌, ◌≤◌, ◌==◌, ◌⊎◌, inl, inr, List, [], ◌∷◌, ◌++◌, length, get_or, take, drop, refl, ap, sym, ◌∙◌, subst, append_assoc, arith}
-use Rattle.std.specs.Prelude.{if◌then◌else◌}
+use Rattle.std.proofs.Common.{◌≡◌, ℕ, zero, suc, ◌+◌, ◌*◌, ◌-◌, ◌/◌, ◌%◌, ◌<◌, ◌≤◌, List, [], ◌∷◌, ◌++◌, length, get_or, take, drop, refl, ap, sym, ◌∙◌, subst, append_assoc, arith}
 use Rattle.std.proofs.Math.Seq.{take-append-add}
 use Rattle.std.proofs.lemmas.List.{length-append, take_rest}
 use Rattle.std.proofs.lemmas.Bool.Decides.{nat_tests}
 use Rattle.mast_terms.specs.Calendar.{IsDay, days_of}
-use Rattle.mast_terms.specs.Cells.{Begins, IsLongestFront}
+use Rattle.mast_terms.specs.Cells.{Begins}
 use Rattle.mast_terms.specs.DateCell.{IsDateText, After, Stops, NotShown, BeginsNumber, EndsNumber, year_text, dashed, least_in_century}
 use Rattle.mast_terms.specs.Printed.{two_digits, date_text}
 use Rattle.mast_terms.specs.declared.date.Date.{Date}

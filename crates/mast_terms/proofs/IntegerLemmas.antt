@@ -1,9 +1,9 @@
 -- Reading digits one by one accepts what is a number, and stops where no number goes on.
-use Rattle.std.proofs.Common.{◌≡◌, ◌⊎◌, inl, inr, ℕ, ℤ, zero, suc, ◌+◌, ◌*◌, ◌-◌, ◌<◌, ◌≤◌, ◌==◌, ◌^◌, ◌&&◌, Bool, true, false, List, ◌∷◌, [], ◌++◌, length, take, refl, ap, sym, ◌∙◌, subst, arith, add-one}
-use Rattle.std.specs.Prelude.{Option, Some, None, IsSome, Result, Ok, Err, nat_le, if◌then◌else◌, cond, IfErr}
+use Rattle.std.proofs.Common.{◌≡◌, inl, inr, ℕ, zero, suc, ◌+◌, ◌*◌, ◌-◌, ◌<◌, ◌≤◌, ◌^◌, ◌&&◌, Bool, true, false, List, ◌∷◌, [], ◌++◌, length, take, refl, ap, sym, ◌∙◌, subst, arith, add-one}
+use Rattle.std.specs.Prelude.{Option, Some, None, IsSome, Result, Ok, Err, nat_le, if◌then◌else◌, IfErr}
 use Rattle.std.specs.Result.{result_ok}
 use Rattle.std.proofs.lemmas.List.{append-nil}
-use Rattle.std.proofs.lemmas.Bool.{and_parts, and_cases, and_from, and_left, and_right, cases_Bool, both_ways, ne_eqb}
+use Rattle.std.proofs.lemmas.Bool.{and_parts, and_cases, and_left, and_right, cases_Bool, ne_eqb}
 use Rattle.std.proofs.lemmas.Bool.Decides.{nat_tests}
 use Rattle.mast_terms.specs.Cells.{Begins, IsLongestFront}
 use Rattle.mast_terms.specs.IntegerCell.{is_digit, are_digits, number_after, magnitude, as_positive, as_negative, integer_of, IsInteger, LongestMagnitude, NoSign, read_digits, read_all_digits}

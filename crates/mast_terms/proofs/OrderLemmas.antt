@@ -6,10 +6,8 @@ use Rattle.std.specs.Ordering.{nat_cmp, ordering_then, eq_by_cmp, is_eq}
 use Rattle.std.specs.declared.cmp.Ordering.{Ordering}
 use Rattle.std.proofs.lemmas.Bool.{and_parts}
 use Rattle.mast_terms.specs.Orders.{value_order, object_order, term_order, tuple_order, TestsEquality, ComparesBy, OrdersAll}
-use Rattle.mast_terms.specs.declared.term.Object.{Object}
 use Rattle.mast_terms.specs.declared.term.Term.{Term}
 use Rattle.mast_terms.specs.declared.term.Term.TheVariants as t
-use Rattle.mast_terms.specs.declared.value.Value.{Value}
 use Rattle.mast_terms.specs.declared.value.Value.TheVariants as v
 use Rattle.mast_terms.specs.contracts.value.ValuePartialEq.TheImpl as value_eq
 use Rattle.mast_terms.specs.contracts.value.ValueEq.TheImpl.Laws as value_equality

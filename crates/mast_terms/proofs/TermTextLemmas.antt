@@ -1,13 +1,13 @@
 -- The printed form of a term tells the term.
-use Rattle.std.proofs.Common.{◌≡◌, ◌≢◌, ◌⊎◌, inl, inr, ℕ, ℤ, pos, negsuc, zero, suc, ◌+◌, ◌/◌, ◌%◌, ◌<◌, ◌≤◌, ◌==◌, Bool, true, false, List, map, ◌∷◌, [], ◌++◌, refl, ap, sym, ◌∙◌, subst, arith}
+use Rattle.std.proofs.Common.{◌≡◌, ◌⊎◌, inl, inr, ℕ, pos, negsuc, suc, ◌+◌, ◌/◌, ◌%◌, ◌<◌, ◌≤◌, ◌==◌, true, List, ◌∷◌, [], ◌++◌, refl, ap, sym, ◌∙◌, subst, arith}
 use Rattle.std.proofs.lemmas.List.{append_assoc, append-nil, append_cancel_right}
-use Rattle.std.proofs.lemmas.Bool.{and_parts, and_from, both_ways}
+use Rattle.std.proofs.lemmas.Bool.{and_parts}
 use Rattle.std.proofs.lemmas.Bool.Decides.{nat_tests}
 use Rattle.std.specs.List.{flat_map}
 use Rattle.std.specs.Prelude.{Option, Some, None, if◌then◌else◌}
-use Rattle.mast_terms.specs.Printed.{number_text, int_text, two_digits, date_text, escaped, quoted, value_text, after_commas, args_text, object_text, term_text}
+use Rattle.mast_terms.specs.Printed.{number_text, two_digits, date_text, escaped, quoted, value_text, after_commas, args_text, object_text, term_text}
 use Rattle.mast_terms.specs.IntegerCell.{is_digit, are_digits}
-use Rattle.mast_terms.proofs.ValueTextLemmas.{number_digits, date_digits, Ends, value_end, value_not_nothing, number_some}
+use Rattle.mast_terms.proofs.ValueTextLemmas.{number_digits, Ends, value_end, value_not_nothing, number_some}
 use Rattle.mast_terms.specs.Calendar.{days_of}
 use Rattle.mast_terms.specs.declared.date.Date.{Date}
 use Rattle.mast_terms.specs.declared.value.Value.{Value}

@@ -1,14 +1,14 @@
 -- The printed form of a value tells the value, whatever follows a comma.
-use Rattle.std.proofs.Common.{◌≡◌, ◌≢◌, ◌⊎◌, inl, inr, ℕ, ℤ, pos, negsuc, zero, suc, ◌+◌, ◌*◌, ◌/◌, ◌%◌, ◌<◌, ◌≤◌, ◌==◌, ◌&&◌, Bool, true, false, List, map, ◌∷◌, [], ◌++◌, refl, ap, sym, ◌∙◌, subst, arith}
-use Rattle.std.proofs.lemmas.List.{append_assoc, append-nil, map-append}
-use Rattle.std.proofs.lemmas.Bool.{and_parts, and_from, both_ways, eqb-true, cases_Bool}
+use Rattle.std.proofs.Common.{◌≡◌, ℕ, pos, negsuc, zero, suc, ◌+◌, ◌/◌, ◌%◌, ◌<◌, ◌≤◌, ◌==◌, true, false, List, map, ◌∷◌, [], ◌++◌, refl, ap, sym, ◌∙◌, subst, arith}
+use Rattle.std.proofs.lemmas.List.{append_assoc}
+use Rattle.std.proofs.lemmas.Bool.{and_parts, and_from, both_ways}
 use Rattle.std.proofs.lemmas.Bool.Decides.{nat_tests}
 use Rattle.std.proofs.lemmas.Int.Digits.{same_from_digits_of, number_digits_of, all_below_base_digits_of}
 use Rattle.std.specs.Int.Digits.{digits_of, number_from_digits, AllBelowBase}
 use Rattle.std.specs.List.{flat_map}
 use Rattle.std.specs.Coded.{le_prop}
 use Rattle.std.specs.Prelude.{Option, Some, None, if◌then◌else◌}
-use Rattle.mast_terms.specs.Printed.{number_text, int_text, two_digits, date_text, escaped, quoted, value_text, after_commas, args_text}
+use Rattle.mast_terms.specs.Printed.{number_text, two_digits, date_text, escaped, quoted, value_text}
 use Rattle.mast_terms.specs.IntegerCell.{is_digit, are_digits}
 use Rattle.mast_terms.specs.Calendar.{IsDay}
 use Rattle.mast_terms.specs.declared.date.Date.{Date}

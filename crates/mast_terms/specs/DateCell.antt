@@ -1,5 +1,5 @@
 -- The cells that a date column accepts: yyyy-mm-dd, for a day of the Gregorian calendar from 0001 to 9999.
-use Rattle.std.specs.Prelude.{◌≡◌, ℕ, ◌+◌, ◌-◌, ◌*◌, ◌≤◌, ◌/◌, ◌%◌, ◌==◌, if◌then◌else◌, List, [], ◌∷◌, ◌++◌, length, take}
+use Rattle.std.specs.Prelude.{◌≡◌, ℕ, ◌+◌, ◌-◌, ◌*◌, ◌≤◌, ◌/◌, ◌%◌, ◌==◌, if◌then◌else◌, List, ◌∷◌, ◌++◌, length, take}
 use Rattle.mast_terms.specs.Cells.{IsLongestFront}
 use Rattle.mast_terms.specs.Printed.{two_digits, date_text}
 use Rattle.mast_terms.specs.declared.date.Date.{Date}

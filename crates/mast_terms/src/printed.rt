@@ -1,7 +1,7 @@
 //! The printed form of terms.
-ghost use Rattle.std.specs.Prelude.{◌≡◌, ◌++◌, ◌<◌, OnOk, OnErr};
+ghost use Rattle.std.specs.Prelude.{◌≡◌, ◌++◌, ◌∷◌, [], ◌<◌, OnOk, OnErr};
 ghost use Rattle.std.specs.List.{flat_map};
-ghost use Rattle.mast_terms.specs.Printed.{int_text, two_digits, date_text, escaped, quoted, value_text, args_text, after_commas, object_text, term_text, IsInjective};
+ghost use Rattle.mast_terms.specs.Printed.{int_text, two_digits, date_text, escaped, quoted, value_text, args_text, after_commas, object_text, term_text, Grows, IsInjective};
 
 use crate::{Date, NoMemory, Object, Term, Value};
 use itoa::Buffer;
@@ -12,10 +12,15 @@ pub fn write_term(alloc: Global, term: &Term, out: &mut Vec<u8>) -> Result<(), N
     ensures ok { OnOk result (out.new.items ≡ out.old.items ++ term_text term.now) }
     ensures err { OnErr result (out.new.items ≡ out.old.items) }
 {
-    let mut text = Vec::new(alloc);
-    push_term(term, &mut text)?;
-    out.extend_from_slice(&text)?;
-    Ok(())
+    let _ = alloc;
+    let start = out.len();
+    match push_term(term, out) {
+        Ok(()) => Ok(()),
+        Err(NoMemory) => {
+            out.truncate(start);
+            Err(NoMemory)
+        }
+    }
 }
 
 /// A law: different terms have different printed forms, whatever their symbols.
@@ -23,8 +28,10 @@ pub fn printing_is_injective()
     ensures { IsInjective term_text }
 {}
 
+#[tactic(auto, using(crate::proofs::GrowthLemmas::grows_same, crate::proofs::GrowthLemmas::grows_after))]
 fn push_term(term: &Term, out: &mut Vec<u8>) -> Result<(), NoMemory>
-    ensures { OnOk result (out.new.items ≡ out.old.items ++ term_text term.now) }
+    ensures ok { OnOk result (out.new.items ≡ out.old.items ++ term_text term.now) }
+    ensures err { OnErr result (Grows out.old.items out.new.items) }
 {
     match term {
         Term::Value(value) => push_value(value, out),
@@ -32,18 +39,22 @@ fn push_term(term: &Term, out: &mut Vec<u8>) -> Result<(), NoMemory>
     }
 }
 
+#[tactic(auto, using(crate::proofs::GrowthLemmas::grows_same, crate::proofs::GrowthLemmas::grows_after))]
 fn push_object(object: &Object, out: &mut Vec<u8>) -> Result<(), NoMemory>
-    ensures { OnOk result (out.new.items ≡ out.old.items ++ object_text object.now) }
+    ensures ok { OnOk result (out.new.items ≡ out.old.items ++ object_text object.now) }
+    ensures err { OnErr result (Grows out.old.items out.new.items) }
 {
-    out.extend_from_slice(object.symbol.as_str().as_bytes())?;
-    out.push(b'(')?;
+    push_bytes(object.symbol.as_str().as_bytes(), out)?;
+    push_byte(b'(', out)?;
     push_args(object.args.as_slice(), out)?;
-    out.push(b')')?;
+    push_byte(b')', out)?;
     Ok(())
 }
 
+#[tactic(auto, using(crate::proofs::GrowthLemmas::grows_same, crate::proofs::GrowthLemmas::grows_after))]
 fn push_args(args: &[Value], out: &mut Vec<u8>) -> Result<(), NoMemory>
-    ensures { OnOk result (out.new.items ≡ out.old.items ++ args_text args.now) }
+    ensures ok { OnOk result (out.new.items ≡ out.old.items ++ args_text args.now) }
+    ensures err { OnErr result (Grows out.old.items out.new.items) }
 {
     if let [first, rest @ ..] = args {
         push_value(first, out)?;
@@ -52,18 +63,22 @@ fn push_args(args: &[Value], out: &mut Vec<u8>) -> Result<(), NoMemory>
     Ok(())
 }
 
+#[tactic(auto, using(crate::proofs::GrowthLemmas::grows_then, crate::proofs::GrowthLemmas::grows_after))]
 fn push_after_commas(args: &[Value], out: &mut Vec<u8>) -> Result<(), NoMemory>
-    ensures { OnOk result (out.new.items ≡ out.old.items ++ after_commas args.now) }
+    ensures ok { OnOk result (out.new.items ≡ out.old.items ++ after_commas args.now) }
+    ensures err { OnErr result (Grows out.old.items out.new.items) }
 {
     for value in args {
-        out.push(b',')?;
+        push_byte(b',', out)?;
         push_value(value, out)?;
     }
     Ok(())
 }
 
+#[tactic(auto, using(crate::proofs::GrowthLemmas::grows_same, crate::proofs::GrowthLemmas::grows_after))]
 fn push_value(value: &Value, out: &mut Vec<u8>) -> Result<(), NoMemory>
-    ensures { OnOk result (out.new.items ≡ out.old.items ++ value_text value.now) }
+    ensures ok { OnOk result (out.new.items ≡ out.old.items ++ value_text value.now) }
+    ensures err { OnErr result (Grows out.old.items out.new.items) }
 {
     match value {
         Value::Int(number) => push_int(*number, out),
@@ -72,56 +87,83 @@ fn push_value(value: &Value, out: &mut Vec<u8>) -> Result<(), NoMemory>
     }
 }
 
+#[tactic(auto, using(crate::proofs::GrowthLemmas::grows_same, crate::proofs::GrowthLemmas::grows_after))]
 fn push_int(number: i64, out: &mut Vec<u8>) -> Result<(), NoMemory>
-    ensures { OnOk result (out.new.items ≡ out.old.items ++ int_text number) }
+    ensures ok { OnOk result (out.new.items ≡ out.old.items ++ int_text number) }
+    ensures err { OnErr result (Grows out.old.items out.new.items) }
 {
     let mut buffer = Buffer::new();
-    out.extend_from_slice(buffer.format(number).as_bytes())?;
+    push_bytes(buffer.format(number).as_bytes(), out)?;
     Ok(())
 }
 
+#[tactic(auto, using(crate::proofs::GrowthLemmas::grows_same, crate::proofs::GrowthLemmas::grows_after))]
 fn push_two_digits(number: u8, out: &mut Vec<u8>) -> Result<(), NoMemory>
     requires { number < 100 }
-    ensures { OnOk result (out.new.items ≡ out.old.items ++ two_digits number) }
+    ensures ok { OnOk result (out.new.items ≡ out.old.items ++ two_digits number) }
+    ensures err { OnErr result (Grows out.old.items out.new.items) }
 {
-    out.push(b'0' + number / 10)?;
-    out.push(b'0' + number % 10)?;
+    push_byte(b'0' + number / 10, out)?;
+    push_byte(b'0' + number % 10, out)?;
     Ok(())
 }
 
+#[tactic(auto, using(crate::proofs::GrowthLemmas::grows_same, crate::proofs::GrowthLemmas::grows_after))]
 fn push_date(date: Date, out: &mut Vec<u8>) -> Result<(), NoMemory>
-    ensures { OnOk result (out.new.items ≡ out.old.items ++ date_text date) }
+    ensures ok { OnOk result (out.new.items ≡ out.old.items ++ date_text date) }
+    ensures err { OnErr result (Grows out.old.items out.new.items) }
 {
     push_two_digits((date.year / 100) as u8, out)?;
     push_two_digits((date.year % 100) as u8, out)?;
-    out.push(b'-')?;
+    push_byte(b'-', out)?;
     push_two_digits(date.month, out)?;
-    out.push(b'-')?;
+    push_byte(b'-', out)?;
     push_two_digits(date.day, out)?;
     Ok(())
 }
 
+#[tactic(auto, using(crate::proofs::GrowthLemmas::grows_same, crate::proofs::GrowthLemmas::grows_after))]
 fn push_escaped(byte: u8, out: &mut Vec<u8>) -> Result<(), NoMemory>
-    ensures { OnOk result (out.new.items ≡ out.old.items ++ escaped byte) }
+    ensures ok { OnOk result (out.new.items ≡ out.old.items ++ escaped byte) }
+    ensures err { OnErr result (Grows out.old.items out.new.items) }
 {
     match byte {
-        b'"' => out.extend_from_slice(b"\\\"")?,
-        b'\\' => out.extend_from_slice(b"\\\\")?,
-        b'\n' => out.extend_from_slice(b"\\n")?,
-        b'\r' => out.extend_from_slice(b"\\r")?,
-        b'\t' => out.extend_from_slice(b"\\t")?,
-        _ => out.push(byte)?,
+        b'"' => push_bytes(b"\\\"", out)?,
+        b'\\' => push_bytes(b"\\\\", out)?,
+        b'\n' => push_bytes(b"\\n", out)?,
+        b'\r' => push_bytes(b"\\r", out)?,
+        b'\t' => push_bytes(b"\\t", out)?,
+        _ => push_byte(byte, out)?,
     }
     Ok(())
 }
 
 fn push_quoted(text: &[u8], out: &mut Vec<u8>) -> Result<(), NoMemory>
-    ensures { OnOk result (out.new.items ≡ out.old.items ++ quoted text.now) }
+    ensures ok { OnOk result (out.new.items ≡ out.old.items ++ quoted text.now) }
+    ensures err { OnErr result (Grows out.old.items out.new.items) }
 {
-    out.push(b'"')?;
+    push_byte(b'"', out)?;
     for byte in text {
         push_escaped(*byte, out)?;
     }
-    out.push(b'"')?;
+    push_byte(b'"', out)?;
+    Ok(())
+}
+
+#[tactic(auto, using(crate::proofs::GrowthLemmas::grows_same))]
+fn push_byte(byte: u8, out: &mut Vec<u8>) -> Result<(), NoMemory>
+    ensures ok { OnOk result (out.new.items ≡ out.old.items ++ byte ∷ []) }
+    ensures err { OnErr result (Grows out.old.items out.new.items) }
+{
+    out.push(byte)?;
+    Ok(())
+}
+
+#[tactic(auto, using(crate::proofs::GrowthLemmas::grows_same))]
+fn push_bytes(bytes: &[u8], out: &mut Vec<u8>) -> Result<(), NoMemory>
+    ensures ok { OnOk result (out.new.items ≡ out.old.items ++ bytes.now) }
+    ensures err { OnErr result (Grows out.old.items out.new.items) }
+{
+    out.extend_from_slice(bytes)?;
     Ok(())
 }

@@ -1,4 +1,4 @@
-use Rattle.std.proofs.Common.{sym, ◌∙◌}
+use Rattle.std.proofs.Common.{sym}
 use Rattle.mast_terms.specs.Vocabularies.{same_value}
 use Rattle.mast_terms.proofs.PlaceLemmas.{slice_get-found}
 use Rattle.mast_terms.proofs.SameLemmas.{value_same}

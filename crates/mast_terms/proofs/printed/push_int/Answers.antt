@@ -1,4 +1,4 @@
-use Rattle.std.proofs.Common.{arith, rules, sym, ◌∙◌, ap, ◌++◌}
+use Rattle.std.proofs.Common.{arith}
 use Rattle.std.proofs.lemmas.Grind.{common_steps}
 use Rattle.mast_terms.proofs.NumberTextLemmas.{signed_decimal_is}
 use Rattle.mast_terms.proofs.printed.push_int.Goals as goal
