@@ -48,6 +48,7 @@ impl Constants {
         ensures joined { OnOk result (self.new ≡ joined_value value.now self.old) }
         ensures place { IfOk result (λ number. value_place value.now self.new ≡ Some number) }
         ensures shown { IfOk result (λ number. slice_get self.new number ≡ Some value.now) }
+        ensures within { IfOk result (λ number. number < length self.new) }
         ensures kept { OnErr result (self.new ≡ self.old) }
         ensures numbered { IsNumbered self.new }
     {
@@ -67,6 +68,7 @@ impl Constants {
         ensures joined { OnOk result (self.new ≡ self.old ++ value.now ∷ []) }
         ensures place { IfOk result (λ number. value_place value.now self.new ≡ Some number) }
         ensures shown { IfOk result (λ number. slice_get self.new number ≡ Some value.now) }
+        ensures within { IfOk result (λ number. number < length self.new) }
         ensures kept { OnErr result (self.new ≡ self.old) }
         ensures numbered { IsNumbered self.new }
     {

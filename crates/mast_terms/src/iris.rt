@@ -48,6 +48,7 @@ impl Iris {
         ensures place { result ≡ place iri.now self.now }
         ensures stands { is_some result ≡ stands iri.now self.now }
         ensures shown { IfSome result (λ number. slice_get self.now number ≡ Some iri.now) }
+        ensures within { IfSome result (λ number. number < length self.now) }
     {
         match number_in(&self.set, iri) {
             Some(number) => Some(number as u32),
@@ -67,6 +68,7 @@ impl Iris {
         ensures joined { OnOk result (self.new ≡ joined iri.now self.old) }
         ensures place { IfOk result (λ number. place iri.now self.new ≡ Some number) }
         ensures shown { IfOk result (λ number. slice_get self.new number ≡ Some iri.now) }
+        ensures within { IfOk result (λ number. number < length self.new) }
         ensures kept { OnErr result (self.new ≡ self.old) }
         ensures numbered { IsNumbered self.new }
     {
@@ -86,6 +88,7 @@ impl Iris {
         ensures joined { OnOk result (self.new ≡ self.old ++ iri.now ∷ []) }
         ensures place { IfOk result (λ number. place iri.now self.new ≡ Some number) }
         ensures shown { IfOk result (λ number. slice_get self.new number ≡ Some iri.now) }
+        ensures within { IfOk result (λ number. number < length self.new) }
         ensures kept { OnErr result (self.new ≡ self.old) }
         ensures numbered { IsNumbered self.new }
     {

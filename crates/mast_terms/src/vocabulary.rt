@@ -70,6 +70,7 @@ impl Vocabulary {
         ensures added { OnOk result (self.new ≡ with_iri self.old kind iri.now) }
         ensures place { IfOk result (λ name. place iri.now (iris self.new kind) ≡ Some name.0) }
         ensures shown { IfOk result (λ name. slice_get (iris self.new kind) name.0 ≡ Some iri.now) }
+        ensures within { IfOk result (λ name. name.0 < length (iris self.new kind)) }
         ensures kept { OnErr result (self.new ≡ self.old) }
     {
         if self.stands_otherwise(kind, iri) {
@@ -102,6 +103,7 @@ impl Vocabulary {
         ensures added { OnOk result (self.new ≡ with_value self.old value.now) }
         ensures place { IfOk result (λ number. value_place value.now self.new.constants ≡ Some number) }
         ensures shown { IfOk result (λ number. slice_get self.new.constants number ≡ Some value.now) }
+        ensures within { IfOk result (λ number. number < length self.new.constants) }
         ensures kept { OnErr result (self.new ≡ self.old) }
     {
         self.constants.add(alloc, value)
@@ -111,6 +113,7 @@ impl Vocabulary {
     pub fn find(&self, kind: NameKind, iri: &str) -> Option<Name>
         ensures place { option_map (λ name. name.0) result ≡ place iri.now (iris self.now kind) }
         ensures shown { IfSome result (λ name. slice_get (iris self.now kind) name.0 ≡ Some iri.now) }
+        ensures within { IfSome result (λ name. name.0 < length (iris self.now kind)) }
     {
         let number = self.iris(kind).find(iri)?;
         Some(Name(number))
