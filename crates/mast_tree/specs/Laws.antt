@@ -1,5 +1,7 @@
 -- Laws of the definitions.
-use Rattle.std.specs.Prelude.{◌≡◌, List, ◌⊎◌}
+use Rattle.std.specs.Prelude.{◌≡◌, ℕ, List, ◌⊎◌}
+use Rattle.mast_tree.specs.declared.token.LexBreach.{LexBreach}
+use Rattle.mast_tree.specs.Source.{AreTokens, IsLexBreach}
 use Rattle.mast_tree.specs.declared.token.Token.{Token}
 use Rattle.mast_tree.specs.declared.item.Item.{Item}
 use Rattle.mast_tree.specs.declared.item.TreeBreach.{TreeBreach}
@@ -14,3 +16,13 @@ pub record HasOneTree (tokens : List Token) : Type 0 where
 
 abbrev pub TreeLaw : Type 0
 TreeLaw = (tokens : List Token) → HasOneTree tokens
+
+-- a source has one token list, or one first lexical breach, and not both
+pub record HasOneReading (source : List ℕ) : Type 0 where
+  pub either : ((tokens : List Token) × AreTokens source tokens) ⊎ ((breach : LexBreach) × IsLexBreach source breach)
+  pub not_both : (tokens : List Token) (breach : LexBreach) → AreTokens source tokens → IsLexBreach source breach → ⊥
+  pub one_list : (a b : List Token) → AreTokens source a → AreTokens source b → a ≡ b
+  pub one_breach : (a b : LexBreach) → IsLexBreach source a → IsLexBreach source b → a ≡ b
+
+abbrev pub TokenLaw : Type 0
+TokenLaw = (source : List ℕ) → HasOneReading source

@@ -1,8 +1,10 @@
 pub mod Grammar
 pub mod Growth
 pub mod Laws
+pub mod Lexed
 pub mod Machine
 pub mod Outcome
 pub mod Scan
+pub mod Source
 pub mod Tokens
 pub mod Trees

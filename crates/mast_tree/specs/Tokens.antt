@@ -42,6 +42,12 @@ str_rest escaped [] = false
 str_rest true (b ∷ bs) = (b == 34 || b == 92) && str_rest false bs
 str_rest false (b ∷ bs) = if b == 34 then is_end bs else str_rest (b == 92) bs
 
+-- characters of a string, each whole, none of them the closing quote; the Bool says whether a backslash stands before
+abbrev pub are_chars : Bool → List ℕ → Bool
+are_chars escaped [] = not escaped
+are_chars true (b ∷ bs) = (b == 34 || b == 92) && are_chars false bs
+are_chars false (b ∷ bs) = if b == 34 then false else are_chars (b == 92) bs
+
 -- the form of a token of each kind
 abbrev pub is_token : TokenKind → List ℕ → Bool
 is_token k [] = false

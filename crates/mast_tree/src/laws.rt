@@ -1,7 +1,12 @@
 // What the definitions promise by themselves: laws, which no code calls.
-ghost use Rattle.mast_tree.specs.Laws.{TreeLaw};
+ghost use Rattle.mast_tree.specs.Laws.{TokenLaw, TreeLaw};
 
 /// Tokens have a tree or a first breach of the grammar, not both, and only one.
 pub fn tree_law()
     ensures { TreeLaw }
+{}
+
+/// A source has tokens or a first lexical breach.
+pub fn token_law()
+    ensures { TokenLaw }
 {}

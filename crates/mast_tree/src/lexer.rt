@@ -1,5 +1,8 @@
 // From bytes to tokens.
-ghost use Rattle.std.specs.Prelude.{◌≡◌, ◌<◌, ◌+◌, ◌^◌, ◌≤◌, length};
+ghost use Rattle.std.specs.Prelude.{◌≡◌, ◌<◌, ◌+◌, ◌^◌, ◌≤◌, drop, length};
+ghost use Rattle.mast_tree.specs.Outcome.{Answers};
+ghost use Rattle.mast_tree.specs.Lexed as lexed;
+ghost use Rattle.mast_tree.specs.Source.{AreTokens, IsLexBreach, mark_of};
 ghost use Rattle.mast_tree.specs.Scan as scans;
 ghost use Rattle.mast_tree.specs.Scan.{Within, FrontWithin};
 
@@ -108,7 +111,8 @@ fn front_of(bytes: &[u8]) -> Front
 
 /// How many bytes a byte order mark takes at the front.
 fn mark(source: &[u8]) -> usize
-    ensures { result ≤ length source.now }
+    ensures value { result ≡ mark_of source.now }
+    ensures within { result ≤ length source.now }
 {
     match source {
         [a, b, c, ..] => {
@@ -122,13 +126,23 @@ fn mark(source: &[u8]) -> usize
     }
 }
 
+/// The bytes behind the mark, or all where there is none.
+fn behind_mark(source: &[u8]) -> &[u8]
+    ensures value { result.now ≡ drop (mark_of source.now) source.now }
+    ensures size { length result.now + mark_of source.now ≡ length source.now }
+{
+    let (_, behind) = source.split_at(mark(source));
+    behind
+}
+
 /// The tokens of UTF-8 bytes. Each turn takes a token, of a byte at least.
 fn lex(alloc: Global, source: &[u8]) -> Result<List<Token>, Stop<LexBreach>>
     requires { length source.now < 4294967295 }
+    ensures { Answers result (λ tokens. lexed.reading source.now ≡ lexed.read tokens) (λ breach. lexed.reading source.now ≡ lexed.wrong breach) }
 {
     let mut tokens = List::new(alloc);
     let start = mark(source);
-    let mut rest = &source[start..];
+    let mut rest = behind_mark(source);
     let mut at = start as u32;
     let mut line = 1;
     'turns: for _ in 0..source.len() {
@@ -169,6 +183,7 @@ fn lex(alloc: Global, source: &[u8]) -> Result<List<Token>, Stop<LexBreach>>
 /// The tokens of a source, in order, or its first lexical breach.
 pub fn tokens(alloc: Global, source: &[u8]) -> Result<List<Token>, Stop<LexBreach>>
     requires { length source.now < 4294967295 }
+    ensures { Answers result (AreTokens source.now) (IsLexBreach source.now) }
 {
     match str::from_utf8(source) {
         Ok(_) => lex(alloc, source),
