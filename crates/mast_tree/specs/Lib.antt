@@ -8,3 +8,4 @@ pub mod Scan
 pub mod Source
 pub mod Tokens
 pub mod Trees
+pub mod Words

@@ -1,26 +1,62 @@
 // The texts of a document's tokens.
-use crate::{Doc, TokenKind};
+ghost use Rattle.std.specs.Prelude.{◌≡◌, ◌≤◌, ◌-◌, Some, slice_get, take, drop, length, false, IfOk};
+ghost use Rattle.std.specs.Str.{IsUtf8};
+ghost use Rattle.mast_tree.specs.Source.{AreTokens};
+ghost use Rattle.mast_tree.specs.Words as words;
+ghost use Rattle.mast_tree.specs.Words.{span, IsWordOf, IsTextOf};
+ghost use Rattle.mast_tree.specs.declared.token.Token.{Token as AToken};
+
+use crate::{Doc, Token, TokenKind};
 use mast_terms::{NoMemory, Text};
 use std::alloc::Global;
 
 /// The bytes as a text; nothing where they are none.
-fn as_text(bytes: &[u8]) -> &str {
+fn as_text(bytes: &[u8]) -> &str
+    ensures { IsUtf8 bytes.now → result.now ≡ bytes.now }
+{
     match str::from_utf8(bytes) {
         Ok(text) => text,
         Err(_) => "",
     }
 }
 
-/// The bytes without the first and the last.
-fn inner(bytes: &[u8]) -> &[u8] {
-    match bytes {
-        [_, inside @ .., _] => inside,
-        _ => &[],
+/// The bytes from one place to another; none where they are no places in order.
+fn between(bytes: &[u8], from: usize, to: usize) -> &[u8]
+    ensures { from ≤ to → to ≤ length bytes.now → result.now ≡ take (to - from) (drop from bytes.now) }
+{
+    if from <= to && to <= bytes.len() {
+        &bytes[from..to]
+    } else {
+        &[]
     }
 }
 
+/// The bytes without the first and the last.
+fn inside(bytes: &[u8]) -> &[u8]
+    ensures { result.now ≡ words.inside bytes.now }
+{
+    if bytes.len() < 2 {
+        &[]
+    } else {
+        &bytes[1..bytes.len() - 1]
+    }
+}
+
+fn has_escape(bytes: &[u8]) -> bool
+    ensures { result ≡ words.has_escape bytes.now }
+{
+    for b in bytes {
+        if *b == b'\\' {
+            return true;
+        }
+    }
+    false
+}
+
 /// The bytes without the backslashes that escape.
-fn unescaped(alloc: Global, bytes: &[u8]) -> Result<Vec<u8>, NoMemory> {
+fn unescaped(alloc: Global, bytes: &[u8]) -> Result<Vec<u8>, NoMemory>
+    ensures { IfOk result (λ text. text.items ≡ words.unescaped false bytes.now) }
+{
     let mut text = Vec::new(alloc);
     let mut escaped = false;
     for b in bytes {
@@ -35,50 +71,52 @@ fn unescaped(alloc: Global, bytes: &[u8]) -> Result<Vec<u8>, NoMemory> {
 }
 
 impl<'a> Doc<'a> {
-    /// The bytes of a token; none where there is no such token.
-    pub(crate) fn bytes(&self, token: u32) -> &'a [u8] {
-        match self.tokens.get(token as usize) {
-            None => &[],
-            Some(t) => match self.source.get(t.from as usize..t.to as usize) {
-                None => &[],
-                Some(bytes) => bytes,
-            },
-        }
-    }
-
-    /// The kind of a token.
-    pub(crate) fn kind(&self, token: u32) -> Option<TokenKind> {
-        match self.tokens.get(token as usize) {
-            None => None,
-            Some(t) => Some(t.kind),
-        }
+    /// A token, if there is one of that number.
+    pub(crate) fn token(&self, token: u32) -> Option<Token>
+        ensures { result ≡ slice_get self.now.tokens.now token }
+    {
+        self.tokens.get(token as usize).copied()
     }
 
     /// The line of a token.
     pub(crate) fn line(&self, token: u32) -> u32 {
-        match self.tokens.get(token as usize) {
+        match self.token(token) {
             None => 1,
             Some(t) => t.line,
         }
     }
 
     /// The text of a name's token, or that of an IRI's without its brackets.
-    pub fn word(&self, token: u32) -> &'a str {
-        let bytes = self.bytes(token);
-        match self.kind(token) {
-            Some(TokenKind::Iri) => as_text(inner(bytes)),
-            _ => as_text(bytes),
+    pub fn word(&self, token: u32) -> &'a str
+        ensures { AreTokens self.now.source.now self.now.tokens.now → (t : AToken) → slice_get self.now.tokens.now token ≡ Some t → IsWordOf t.kind (span self.now.source.now t) result.now }
+    {
+        match self.token(token) {
+            None => "",
+            Some(t) => {
+                let bytes = between(self.source, t.from as usize, t.to as usize);
+                match t.kind {
+                    TokenKind::Iri => as_text(inside(bytes)),
+                    _ => as_text(bytes),
+                }
+            }
         }
     }
 
     /// The text of a string's token, without its quotes and its escapes.
-    pub fn text(&self, alloc: Global, token: u32) -> Result<Text, NoMemory> {
-        let inside = inner(self.bytes(token));
-        if inside.contains(&b'\\') {
-            let text = unescaped(alloc, inside)?;
-            Text::from_str(alloc, as_text(text.as_slice()))
-        } else {
-            Text::from_str(alloc, as_text(inside))
+    pub fn text(&self, alloc: Global, token: u32) -> Result<Text, NoMemory>
+        ensures { IfOk result (λ text. AreTokens self.now.source.now self.now.tokens.now → (t : AToken) → slice_get self.now.tokens.now token ≡ Some t → IsTextOf t.kind (span self.now.source.now t) text) }
+    {
+        match self.token(token) {
+            None => Text::from_str(alloc, ""),
+            Some(t) => {
+                let chars = inside(between(self.source, t.from as usize, t.to as usize));
+                if has_escape(chars) {
+                    let text = unescaped(alloc, chars)?;
+                    Text::from_str(alloc, as_text(text.as_slice()))
+                } else {
+                    Text::from_str(alloc, as_text(chars))
+                }
+            }
         }
     }
 }
