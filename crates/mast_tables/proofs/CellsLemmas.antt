@@ -1,10 +1,10 @@
 -- The cells of marks, and the numbers of their values.
 use Rattle.std.proofs.Common.{◌≡◌, ◌⊎◌, inl, inr, ℕ, zero, suc, ◌+◌, ◌-◌, ◌<◌, ◌≤◌, Bool, true, false, not, cond, List, [], ◌∷◌, ◌++◌, map, length, get_or, refl, sym, ap, subst, ◌∙◌, true≢false, arith, if◌then◌else◌}
-use Rattle.std.specs.Prelude.{Option, Some, None, slice_get, option_and_then, nat_lt}
+use Rattle.std.specs.Prelude.{Option, Some, None, slice_get, option_and_then}
 use Rattle.std.specs.List.{fold, position, position_or_len, list_any, IsDistinct, AllByRecursion}
-use Rattle.std.proofs.lemmas.List.{map-append, get_or-map, length_push, append-nil}
+use Rattle.std.proofs.lemmas.List.{map-append, get_or-map, length_push}
 use Rattle.std.proofs.lemmas.List.Sums.{fold-append}
-use Rattle.std.proofs.lemmas.Option.{slice_get_within, slice_get-get_or}
+use Rattle.std.proofs.lemmas.Option.{slice_get_within}
 use Rattle.std.proofs.lemmas.Map.Keys.{IsDistinct-head, IsDistinct-tail}
 use Rattle.std.proofs.lemmas.Bool.Decides.{nat_tests}
 use Rattle.indexmap.specs.IndexSet.{insert_key}

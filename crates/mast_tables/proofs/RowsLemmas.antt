@@ -1,7 +1,7 @@
 -- Rows of one width, and their cells one after another.
-use Rattle.std.proofs.Common.{◌≡◌, ℕ, zero, suc, ◌+◌, ◌-◌, ◌*◌, ◌<◌, ◌≤◌, List, [], ◌∷◌, ◌++◌, length, get_or, take, drop, refl, sym, ap, subst, ◌∙◌, arith}
-use Rattle.std.specs.Prelude.{Option, Some, None, option_and_then}
-use Rattle.std.proofs.lemmas.List.{drop-drop, take-append-drop, get_or-take, get_or-drop, length-take, length-drop, nil_from_length}
+use Rattle.std.proofs.Common.{◌≡◌, ℕ, zero, suc, ◌+◌, ◌-◌, ◌*◌, ◌<◌, ◌≤◌, List, [], ◌∷◌, ◌++◌, length, get_or, take, drop, refl, sym, ap, subst, ◌∙◌, add-one, arith}
+use Rattle.std.specs.Prelude.{Option, None, option_and_then}
+use Rattle.std.proofs.lemmas.List.{drop-drop, take-append-drop, get_or-take, get_or-drop, length-take, length-drop, nil_from_length, take_all, take-append-le, drop-append-le}
 use Rattle.std.proofs.lemmas.Nat.{mul-add-lt}
 use Rattle.std.proofs.Math.Nat.{suc-mul, zero-mul, mul_comm}
 use Rattle.mast_terms.specs.declared.value.Value.{Value}
@@ -64,3 +64,20 @@ module _ (w n : ℕ) (cells : List (Option Value)) (rows : List Row) (size : len
 
     pub view_number : option_and_then (number_among cells) (get_or cells ((row - 1) * w + (column - 1)) None) ≡ number_at rows row column
     view_number = ap (option_and_then (number_among cells)) view_cell ∙ ap (λ (k : List (Option Value)). option_and_then (number_among k) (cell_at rows row column)) (sym view_cells)
+
+-- one more row
+pub rows_push : (w n : ℕ) (cells row : List (Option Value)) → length cells ≡ n * w → length row ≡ w → rows_of w (n + 1) (cells ++ row) ≡ rows_of w n cells ++ row ∷ []
+rows_push w n cells row size long = ap (λ (k : ℕ). rows_of w k (cells ++ row)) (add-one n) ∙ by n cells size
+  where
+    last : (n : ℕ) (cells : List (Option Value)) → cells ≡ [] → rows_of w (suc zero) (cells ++ row) ≡ row ∷ []
+    last n cells e = rw (e, take_all w row (omega (arith, long))) refl
+
+    by : (n : ℕ) (cells : List (Option Value)) → length cells ≡ n * w → rows_of w (suc n) (cells ++ row) ≡ rows_of w n cells ++ row ∷ []
+    by zero cells h = last zero cells (nil_from_length cells (h ∙ zero-mul w))
+    by (suc n) cells h =
+        let le : w ≤ length cells = omega (arith, h, suc-mul n w) in
+        let size : length (drop w cells) ≡ n * w = omega (arith, length-drop w cells, h, suc-mul n w) in
+        let head : take w (cells ++ row) ≡ take w cells = take-append-le w cells row le in
+        let tail : drop w (cells ++ row) ≡ drop w cells ++ row = drop-append-le w cells row le in
+        let rest : rows_of w (suc n) (drop w cells ++ row) ≡ rows_of w n (drop w cells) ++ row ∷ [] = by n (drop w cells) size in
+        ap (λ (k : Row). k ∷ rows_of w (suc n) (drop w (cells ++ row))) head ∙ ap (λ (k : List (Option Value)). take w cells ∷ rows_of w (suc n) k) tail ∙ ap (λ (k : List Row). take w cells ∷ k) rest

@@ -1,5 +1,5 @@
 -- The cells of a table, by the numbers of their values.
-use Rattle.std.specs.Prelude.{◌≡◌, ℕ, zero, suc, ◌≤◌, Bool, List, [], ◌∷◌, Option, Some, None, map, length, slice_get, IsSome}
+use Rattle.std.specs.Prelude.{◌≡◌, ℕ, zero, suc, ◌≤◌, Bool, List, [], ◌∷◌, Option, Some, None, map, length, slice_get}
 use Rattle.std.specs.List.{position, IsDistinct}
 use Rattle.indexmap.specs.IndexSet.{insert_all}
 use Rattle.mast_terms.specs.declared.value.Value.{Value}

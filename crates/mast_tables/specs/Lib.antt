@@ -1,2 +1,6 @@
+pub mod Breach
 pub mod Cells
+pub mod Reading
+pub mod Records
 pub mod Rows
+pub mod Typed

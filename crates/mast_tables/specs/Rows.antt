@@ -1,5 +1,5 @@
 -- A table as its rows of cells. Rows and columns count from 1.
-use Rattle.std.specs.Prelude.{◌≡◌, ℕ, zero, suc, ◌-◌, ◌*◌, ◌≤◌, List, [], ◌∷◌, ◌++◌, Option, Some, None, length, take, drop, get_or, option_and_then, SomeIndex}
+use Rattle.std.specs.Prelude.{◌≡◌, ℕ, zero, suc, ◌-◌, ◌*◌, ◌≤◌, List, [], ◌∷◌, ◌++◌, Option, None, length, take, drop, get_or, option_and_then}
 use Rattle.mast_terms.specs.declared.value.Value.{Value}
 use Rattle.mast_tables.specs.declared.cells.Cells.{Cells}
 use Rattle.mast_tables.specs.Cells.{number_among, cells_in, AreCells}

@@ -6,7 +6,6 @@
 
 mod cells;
 mod declaration;
-mod stand_in;
 mod table;
 mod table_file;
 #[cfg(test)]

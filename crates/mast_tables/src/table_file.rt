@@ -1,10 +1,14 @@
 // Table files.
-ghost use Rattle.std.specs.Prelude.{◌≡◌, ◌<◌, ◌≤◌, ◌+◌, OnOk, length, get_or, []};
+ghost use Rattle.std.specs.Prelude.{◌≡◌, ◌<◌, ◌≤◌, ◌+◌, ◌++◌, ◌↔◌, IsTrue, IfSome, IfNone, IfOk, length, get_or, []};
+ghost use Rattle.csv.specs.Reading.{source_of, records_from, default_config, reader_state};
 ghost use Rattle.csv.specs.Records.{fields_of};
+ghost use Rattle.mast_tables.specs.Breach.{DiffersAt, header_of, TellsFile};
 ghost use Rattle.mast_tables.specs.Cells.{AreCells, cells_in};
+ghost use Rattle.mast_tables.specs.Reading.{at_cell, TellsCells, TellsRow, TellsRecords, HasNext};
+ghost use Rattle.mast_tables.specs.Records.{records_of, IsPlain};
 
 use crate::cells::Cells;
-use crate::typed::typed;
+use crate::typed::read_cell;
 use crate::{Column, RowBreach, RowKind, Table, TableDecl};
 use csv::{ByteRecord, Reader, ReaderBuilder};
 use mast_terms::{NoMemory, Stop};
@@ -26,33 +30,57 @@ pub fn load(
 ) -> Result<Table, Stop<RowBreach>>
     requires small { length bytes.now < 4294967295 }
     requires columns { length decl.now.columns < 4294967295 }
+    ensures { TellsFile decl.now.columns most (records_of bytes.now) result }
 {
     let mut reader = ReaderBuilder::new()
         .has_headers(false)
         .flexible(true)
         .from_reader(alloc, bytes);
-    let columns = decl.columns.as_slice();
+    read_table(
+        alloc,
+        &mut reader,
+        decl.columns.as_slice(),
+        most,
+        bytes.len() as u32,
+    )
+}
+
+// The header, and then at most so many records.
+fn read_table<R: Read>(
+    alloc: Global,
+    reader: &mut Reader<R>,
+    columns: &[Column],
+    most: u32,
+    turns: u32,
+) -> Result<Table, Stop<RowBreach>>
+    requires columns { length columns.now < 4294967295 }
+    requires plain { IsPlain reader.old }
+    ensures { IfSome (source_of R.remaining reader.old) (λ bytes. TellsFile columns.now most (records_from default_config (turns + 1) (reader_state reader.old) bytes) result) }
+{
     let mut line = ByteRecord::new(alloc);
-    let found = next(&mut reader, &mut line)?;
-    match header_breach(found, &line, columns) {
+    if !next(reader, &mut line)? {
+        return Err(Stop::Named(RowBreach {
+            number: 0,
+            column: 1,
+            kind: RowKind::Header,
+        }));
+    }
+    match header_breach(&line, columns) {
         Some(column) => Err(Stop::Named(RowBreach {
             number: 0,
             column,
             kind: RowKind::Header,
         })),
-        None => read_rows(
-            alloc,
-            &mut reader,
-            &mut line,
-            columns,
-            most,
-            bytes.len() as u32,
-        ),
+        None => read_rows(alloc, reader, &mut line, columns, most, turns),
     }
 }
 
 // The next record, if there is one.
-fn next<R: Read>(reader: &mut Reader<R>, line: &mut ByteRecord) -> Result<bool, NoMemory> {
+fn next<R: Read>(reader: &mut Reader<R>, line: &mut ByteRecord) -> Result<bool, NoMemory>
+    requires { IsPlain reader.old }
+    ensures plain { IfOk result (λ _. IsPlain reader.new) }
+    ensures read { IfOk result (λ found. HasNext (source_of R.remaining reader.old) (reader_state reader.old) (source_of R.remaining reader.new) (reader_state reader.new) found (fields_of line.new)) }
+{
     match reader.read_byte_record(line) {
         Ok(found) => Ok(found),
         // Nothing but want of memory, or a fault of the reader underneath, which a slice does not have.
@@ -61,26 +89,29 @@ fn next<R: Read>(reader: &mut Reader<R>, line: &mut ByteRecord) -> Result<bool, 
 }
 
 // The least column at which header and declaration differ.
-fn header_breach(found: bool, header: &ByteRecord, columns: &[Column]) -> Option<u32>
+fn header_breach(header: &ByteRecord, columns: &[Column]) -> Option<u32>
     requires { length columns.now < 4294967295 }
+    ensures differs { IfSome result (λ column. DiffersAt 1 (header_of columns.now) (fields_of header.now) column) }
+    ensures same { IfNone result (fields_of header.now ≡ header_of columns.now) }
 {
-    if !found {
-        return Some(1);
-    }
     for (i, column) in columns.iter().enumerate() {
-        match header.get(i) {
-            None => return Some(i as u32 + 1),
-            Some(cell) => {
-                if cell != column.name.as_str().as_bytes() {
-                    return Some(i as u32 + 1);
-                }
-            }
+        if i >= header.len() {
+            return Some(i as u32 + 1);
+        }
+        if !is_name(field(header, i), column) {
+            return Some(i as u32 + 1);
         }
     }
     if header.len() > columns.len() {
         return Some(columns.len() as u32 + 1);
     }
     None
+}
+
+fn is_name(cell: &[u8], column: &Column) -> bool
+    ensures { IsTrue result ↔ (cell.now ≡ column.now.name) }
+{
+    cell == column.name.as_str().as_bytes()
 }
 
 // The rows that are left, at most so many.
@@ -92,7 +123,9 @@ fn read_rows<R: Read>(
     most: u32,
     turns: u32,
 ) -> Result<Table, Stop<RowBreach>>
-    requires { length columns.now < 4294967295 }
+    requires columns { length columns.now < 4294967295 }
+    requires plain { IsPlain reader.old }
+    ensures { IfSome (source_of R.remaining reader.old) (λ bytes. TellsRecords columns.now most (records_from default_config turns (reader_state reader.old) bytes) result) }
 {
     let mut cells = Cells::new(alloc);
     for row in 0..turns {
@@ -103,14 +136,7 @@ fn read_rows<R: Read>(
                 cells,
             });
         }
-        if row >= most {
-            return Err(Stop::Named(RowBreach {
-                number: row + 1,
-                column: 0,
-                kind: RowKind::Rows,
-            }));
-        }
-        read_row(alloc, line, columns, row + 1, &mut cells)?;
+        read_row(alloc, line, columns, most, row + 1, &mut cells)?;
     }
     Ok(Table {
         count: turns,
@@ -119,19 +145,26 @@ fn read_rows<R: Read>(
     })
 }
 
-// The cells of a row.
+// The row of the record with this number.
 fn read_row(
     alloc: Global,
     line: &ByteRecord,
     columns: &[Column],
+    most: u32,
     number: u32,
     cells: &mut Cells,
 ) -> Result<(), Stop<RowBreach>>
     requires columns { length columns.now < 4294967295 }
     requires cells { AreCells cells.old }
-    ensures cells { OnOk result (AreCells cells.new) }
-    ensures wider { OnOk result (length (cells_in cells.new) ≡ length (cells_in cells.old) + length columns.now) }
+    ensures { TellsRow columns.now most number (fields_of line.now) cells.old cells.new result }
 {
+    if number > most {
+        return Err(Stop::Named(RowBreach {
+            number,
+            column: 0,
+            kind: RowKind::Rows,
+        }));
+    }
     if line.len() != columns.len() {
         return Err(Stop::Named(RowBreach {
             number,
@@ -139,20 +172,43 @@ fn read_row(
             kind: RowKind::Width,
         }));
     }
+    read_cells(alloc, line, columns, number, cells)
+}
+
+// The cells of a record, each by its column, or the first wrong one.
+fn read_cells(
+    alloc: Global,
+    line: &ByteRecord,
+    columns: &[Column],
+    number: u32,
+    cells: &mut Cells,
+) -> Result<(), Stop<RowBreach>>
+    requires columns { length columns.now < 4294967295 }
+    requires width { length (fields_of line.now) ≡ length columns.now }
+    requires cells { AreCells cells.old }
+    ensures { TellsCells columns.now number (fields_of line.now) cells.old cells.new result }
+{
     for (i, column) in columns.iter().enumerate() {
-        match typed(alloc, field(line, i), column) {
+        match read_cell(alloc, field(line, i), column) {
             Ok(cell) => cells.push(cell)?,
-            Err(Stop::Named(kind)) => {
-                return Err(Stop::Named(RowBreach {
-                    number,
-                    column: i as u32 + 1,
-                    kind,
-                }));
-            }
-            Err(Stop::NoMemory) => return Err(Stop::NoMemory),
+            Err(stopped) => return Err(placed(number, i as u32 + 1, stopped)),
         }
     }
     Ok(())
+}
+
+// The place of what is wrong with a cell.
+fn placed(number: u32, column: u32, stopped: Stop<RowKind>) -> Stop<RowBreach>
+    ensures { result ≡ at_cell number column stopped }
+{
+    match stopped {
+        Stop::Named(kind) => Stop::Named(RowBreach {
+            number,
+            column,
+            kind,
+        }),
+        Stop::NoMemory => Stop::NoMemory,
+    }
 }
 
 fn field(line: &ByteRecord, i: usize) -> &[u8]

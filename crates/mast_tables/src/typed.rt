@@ -1,15 +1,20 @@
 // Cells by the kind of their column.
-use crate::stand_in::{read_date, read_int};
+ghost use Rattle.std.specs.Prelude.{◌≡◌, [], ⊤, IsUtf8};
+ghost use Rattle.mast_terms.specs.declared.value.Kind.TheVariants as kind;
+ghost use Rattle.mast_tables.specs.Typed.{IsMissing, TellsCell};
+
 use crate::{Column, RowKind};
-use mast_terms::{Kind, Stop, Text, Value};
+use mast_terms::{Kind, Stop, Text, Value, read_date, read_int};
 use std::alloc::Global;
 
 /// The value of a cell, None for a missing one, or what is wrong with it.
-pub(crate) fn typed(
+pub(crate) fn read_cell(
     alloc: Global,
     cell: &[u8],
     column: &Column,
-) -> Result<Option<Value>, Stop<RowKind>> {
+) -> Result<Option<Value>, Stop<RowKind>>
+    ensures { TellsCell column.now cell.now result }
+{
     let text = match str::from_utf8(cell) {
         Ok(text) => text,
         Err(_) => return Err(Stop::Named(RowKind::NotUtf8)),
@@ -19,12 +24,18 @@ pub(crate) fn typed(
     }
     match column.kind {
         Kind::Text => Ok(Some(Value::Text(Text::from_str(alloc, text)?))),
-        Kind::Integer => integer(cell),
-        Kind::Date => date(cell),
+        Kind::Integer => read_integer_cell(cell, column),
+        Kind::Date => read_date_cell(cell, column),
     }
 }
 
-fn integer(cell: &[u8]) -> Result<Option<Value>, Stop<RowKind>> {
+// A cell of an integer column that is not missing.
+fn read_integer_cell(cell: &[u8], column: &Column) -> Result<Option<Value>, Stop<RowKind>>
+    requires text { IsUtf8 cell.now }
+    requires there { IsMissing column.now cell.now → ⊥ }
+    requires kind { column.now.kind ≡ kind.Integer }
+    ensures { TellsCell column.now cell.now result }
+{
     if cell.is_empty() {
         return Err(Stop::Named(RowKind::Missing));
     }
@@ -34,7 +45,13 @@ fn integer(cell: &[u8]) -> Result<Option<Value>, Stop<RowKind>> {
     }
 }
 
-fn date(cell: &[u8]) -> Result<Option<Value>, Stop<RowKind>> {
+// A cell of a date column that is not missing.
+fn read_date_cell(cell: &[u8], column: &Column) -> Result<Option<Value>, Stop<RowKind>>
+    requires text { IsUtf8 cell.now }
+    requires there { IsMissing column.now cell.now → ⊥ }
+    requires kind { column.now.kind ≡ kind.Date }
+    ensures { TellsCell column.now cell.now result }
+{
     if cell.is_empty() {
         return Err(Stop::Named(RowKind::Missing));
     }

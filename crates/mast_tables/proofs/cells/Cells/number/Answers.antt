@@ -1,4 +1,4 @@
-use Rattle.std.proofs.Common.{◌≡◌, sym, ◌∙◌, arith, length, ◌<◌}
+use Rattle.std.proofs.Common.{sym, arith, length, ◌<◌}
 use Rattle.std.proofs.lemmas.List.{get_or_read, length-map}
 use Rattle.mast_tables.proofs.CellsLemmas.{number_some}
 use Rattle.mast_tables.proofs.cells.Cells.number.Goals as goal

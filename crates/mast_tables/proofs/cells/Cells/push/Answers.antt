@@ -1,7 +1,4 @@
-use Rattle.std.proofs.Common.{◌≡◌, ◌+◌, ◌∷◌, ◌++◌, [], sym, ap, ◌∙◌, subst, List, ℕ, map, arith}
-use Rattle.std.specs.Prelude.{Option, Some}
-use Rattle.mast_terms.specs.declared.value.Value.{Value}
-use Rattle.mast_tables.specs.Cells.{AreMarks, marked}
+use Rattle.std.proofs.Common.{arith}
 use Rattle.mast_tables.proofs.CellsLemmas.{none_added, some_cells, some_added}
 use Rattle.mast_tables.proofs.cells.Cells.push.Goals as goal
 

@@ -1,4 +1,4 @@
-use Rattle.std.proofs.Common.{◌≡◌, ◌∙◌, ap, ℕ, ◌<◌, length, get_or, None, subst, sym}
+use Rattle.std.proofs.Common.{◌∙◌, ap, ℕ, get_or, None}
 use Rattle.mast_tables.specs.Cells.{cells_in}
 use Rattle.mast_tables.proofs.RowsLemmas.{view_within, view_cell}
 use Rattle.mast_tables.proofs.table.Table.cell.Goals as goal
