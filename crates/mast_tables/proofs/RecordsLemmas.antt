@@ -1,5 +1,5 @@
 -- One record after another, and a file's rows or first breach.
-use Rattle.std.proofs.Common.{◌≡◌, inl, inr, ℕ, suc, ◌+◌, ◌*◌, ◌≤◌, List, [], ◌∷◌, ◌++◌, length, refl, sym, ap, subst, ◌∙◌, true, false, add-one, arith, append_assoc, append-nil}
+use Rattle.std.proofs.Common.{◌≡◌, inl, inr, ℕ, suc, zero, ◌+◌, ◌-◌, ◌*◌, ◌<◌, ◌≤◌, List, [], ◌∷◌, ◌++◌, length, get_or, refl, sym, ap, subst, ◌∙◌, true, false, add-one, arith, append_assoc, append-nil}
 use Rattle.std.specs.Prelude.{Option, Some, None, IfSome, Result, Ok, Err, IsErrAnd}
 use Rattle.std.proofs.lemmas.List.{length-append}
 use Rattle.std.proofs.Math.Nat.{suc-mul}
@@ -12,11 +12,11 @@ use Rattle.mast_tables.specs.declared.cells.Cells.{Cells}
 use Rattle.mast_tables.specs.declared.declaration.Column.{Column}
 use Rattle.mast_tables.specs.declared.declaration.RowBreach.{RowBreach}
 use Rattle.mast_tables.specs.declared.declaration.RowKind.TheVariants as kind
-use Rattle.mast_tables.specs.Breach.{IsRow, AreRows, DiffersAt, RowsBreach, TellsFile, header_of}
+use Rattle.mast_tables.specs.Breach.{HasRows, IsRow, AreRows, DiffersAt, RowsBreach, TellsFile, header_of}
 use Rattle.mast_tables.specs.Cells.{cells_in}
 use Rattle.mast_tables.specs.Reading.{HasNext, TellsRow, TellsRecords}
 use Rattle.mast_tables.specs.Records.{Record}
-use Rattle.mast_tables.specs.Rows.{Row, rows_of}
+use Rattle.mast_tables.specs.Rows.{IsPlace, Row, rows_of}
 use Rattle.mast_tables.proofs.RowsLemmas.{rows_push}
 
 -- What a read of the next record tells of all records.
@@ -179,3 +179,21 @@ file_rows (Some xs) (Some ys) s t columns most turns fields result h e r =
     let up : turns + 1 ≡ suc turns = omega arith in
     let is : records_from default_config (turns + 1) s xs ≡ fields ∷ records_from default_config turns t ys = ap (λ (k : ℕ). records_from default_config k s xs) up ∙ more_known xs ys s t turns fields h in
     rw is (behind columns most fields (records_from default_config turns t ys) result e r)
+
+-- each row of a table has as many cells as there are columns
+rows_wide : (columns : List Column) (records : List Record) (rows : List Row) (i : ℕ) → AreRows columns records rows → i < length rows → length (get_or rows i []) ≡ length columns
+rows_wide columns [] [] i h lt = absurd (omega arith)
+rows_wide columns [] (row ∷ rows) i h lt = absurd h
+rows_wide columns (fields ∷ records) [] i h lt = absurd h
+rows_wide columns (fields ∷ records) (row ∷ rows) zero h lt = row_long columns fields row h.0
+rows_wide columns (fields ∷ records) (row ∷ rows) (suc i) h lt = rows_wide columns records rows i h.1 (omega arith)
+
+-- so a column of the declaration is one of each row
+pub is_place : (columns : List Column) (most : ℕ) (records : List Record) (rows : List Row) (row column : ℕ) → HasRows columns most records rows → 1 ≤ row → row ≤ length rows → 1 ≤ column → column ≤ length columns → IsPlace rows row column
+is_place columns most [] rows row column h a b c d = absurd h
+is_place columns most (header ∷ records) rows row column h a b c d = record {
+  row_from = a;
+  row_to = b;
+  column_from = c;
+  column_to = omega (arith, rows_wide columns records rows (row - 1) h.2 (omega arith));
+}

@@ -6,6 +6,7 @@
 
 mod cells;
 mod declaration;
+mod laws;
 mod table;
 mod table_file;
 #[cfg(test)]
@@ -13,5 +14,6 @@ mod tests;
 mod typed;
 
 pub use declaration::{Column, RowBreach, RowKind, TableDecl};
+pub use laws::{numbers_tell_values, records_are_all, rows_leave_no_breach};
 pub use table::Table;
 pub use table_file::load;

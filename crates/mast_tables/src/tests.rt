@@ -1,5 +1,5 @@
-use super::{Column, RowBreach, RowKind, Table, TableDecl, load};
-use mast_terms::{Date, Kind, List, NoMemory, Stop, Text, Value};
+use super::{Column, RowKind, TableDecl, load};
+use mast_terms::{Kind, List, NoMemory, Stop, Text, Value};
 use std::alloc::Global;
 use std::test::Fail;
 
@@ -129,25 +129,50 @@ fn files_have_rows_or_a_breach(rt: HostRuntime) -> Result<(), Fail> {
     Ok(())
 }
 
+// The number of a cell, whether it is this value, and the number of the value.
+fn looked_up(
+    alloc: Global,
+    bytes: &[u8],
+    row: u32,
+    column: u32,
+    value: &Value,
+) -> Result<(Option<u32>, bool, Option<u32>), NoMemory> {
+    let decl = declared(alloc)?;
+    let width = decl.columns.as_slice().len();
+    if width > 3 || bytes.len() > 1000 {
+        return Err(NoMemory);
+    }
+    match load(alloc, bytes, &decl, 3) {
+        Ok(table) => {
+            if row < 1 || row > table.rows() || column < 1 || column as usize > width {
+                return Err(NoMemory);
+            }
+            let is = match table.cell(row, column) {
+                Some(cell) => *cell == *value,
+                None => false,
+            };
+            Ok((table.number(row, column), is, table.find(value)))
+        }
+        Err(_) => Err(NoMemory),
+    }
+}
+
 #[test]
 fn equal_values_have_one_number(rt: HostRuntime) -> Result<(), Fail> {
     let alloc = rt.alloc();
-    let decl = declared(alloc)?;
-    let table = load(
-        alloc,
-        b"name,n,d\nu,1,\n,1,2024-02-29\nu,2,2024-02-29\n",
-        &decl,
-        3,
-    )?;
-    assert_eq!(rt; table.number(1, 1), table.number(3, 1));
-    assert_eq!(rt; table.number(2, 1), None);
-    assert_eq!(rt; table.cell(2, 1), None);
-    assert_eq!(rt; table.cell(2, 2), Some(&Value::Int(1)));
-    assert_eq!(rt;
-        table.find(&Value::Text(Text::from_str(alloc, "u")?)),
-        table.number(1, 1)
-    );
-    assert_eq!(rt; table.find(&Value::Text(Text::from_str(alloc, "z")?)), None);
-    assert_eq!(rt; table.find(&Value::Int(2)), table.number(3, 2));
+    let file = b"name,n,d\nu,1,\n,1,2024-02-29\nu,2,2024-02-29\n".as_slice();
+    let u = Value::Text(Text::from_str(alloc, "u")?);
+    let z = Value::Text(Text::from_str(alloc, "z")?);
+    let one = Value::Int(1);
+    let cases = [
+        (1, 1, &u, (Some(0), true, Some(0))),
+        (3, 1, &u, (Some(0), true, Some(0))),
+        (2, 1, &u, (None, false, Some(0))),
+        (2, 2, &one, (Some(1), true, Some(1))),
+        (3, 2, &z, (Some(3), false, None)),
+    ];
+    for (row, column, value, wanted) in cases {
+        assert_eq!(rt; looked_up(alloc, file, row, column, value)?, wanted);
+    }
     Ok(())
 }

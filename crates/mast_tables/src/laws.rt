@@ -1,0 +1,25 @@
+// Laws of the definitions that the contracts cite. No code calls them.
+ghost use Rattle.std.specs.Prelude.{ℕ, ◌≡◌, ◌↔◌, None, List};
+ghost use Rattle.csv.specs.Reading.{AreRecords, default_config, strip_bom};
+ghost use Rattle.csv.specs.declared.parser.State.TheVariants as st;
+ghost use Rattle.mast_tables.specs.Breach.{HasBreach, HasRows};
+ghost use Rattle.mast_tables.specs.Records.{Record, records_of};
+ghost use Rattle.mast_tables.specs.Rows.{IsPlace, Row, cell_at, number_at};
+ghost use Rattle.mast_tables.specs.declared.declaration.Column.{Column};
+ghost use Rattle.mast_tables.specs.declared.declaration.RowBreach.{RowBreach};
+
+/// The records of a file are all that the `csv` crate's reader gives of it.
+pub fn records_are_all()
+    ensures { (bytes : List ℕ) → AreRecords default_config st.StartRecord (strip_bom bytes) (records_of bytes) }
+{}
+
+/// A file that has the rows of a table has no breach.
+pub fn rows_leave_no_breach()
+    ensures { (columns : List Column) (most : ℕ) (records : List Record) (rows : List Row) (breach : RowBreach) → HasRows columns most records rows → HasBreach columns most records breach → ⊥ }
+{}
+
+/// Two cells of a table have one number exactly where their values are equal, and a cell has none exactly where it is missing.
+pub fn numbers_tell_values()
+    ensures same { (rows : List Row) (row column other next : ℕ) → IsPlace rows row column → IsPlace rows other next → (number_at rows row column ≡ number_at rows other next) ↔ (cell_at rows row column ≡ cell_at rows other next) }
+    ensures missing { (rows : List Row) (row column : ℕ) → IsPlace rows row column → (number_at rows row column ≡ None) ↔ (cell_at rows row column ≡ None) }
+{}
