@@ -8,3 +8,5 @@ pub mod SettleLemmas
 pub mod SameTuplesLemmas
 pub mod JoinLemmas
 pub mod PartsLemmas
+pub mod PlaceLemmas
+pub mod UnifiedLemmas

@@ -1,11 +1,12 @@
 -- What unification means: an assignment that makes two atoms one fact, and the atom that they become.
-use Rattle.std.specs.Prelude.{◌≡◌, ℕ, ◌<◌, Option, Some}
+use Rattle.std.specs.Prelude.{◌≡◌, ℕ, ◌<◌, List, Option, Some}
 use Rattle.mast_cq.specs.declared.atom.Arg.{Arg}
 use Rattle.mast_cq.specs.declared.atom.Arg.TheVariants.{Blank, Var, Constant}
 use Rattle.mast_cq.specs.declared.atom.Atom.{Atom}
 use Rattle.mast_cq.specs.declared.atom.Atom.TheVariants.{Class, Role, Attr}
-use Rattle.mast_cq.specs.Meanings.{Fact, Match}
-use Rattle.mast_cq.specs.Unification.{Replacement, replace, Meeting}
+use Rattle.mast_cq.specs.Meanings.{Fact, Match, HasTuple}
+use Rattle.mast_cq.specs.Unification.{Replacement, replace, Meeting, unified}
+use Rattle.mast_cq.specs.declared.query.Cq.{Cq}
 
 -- the argument is no `_`, and stands for the term
 abbrev pub Stands : {X : Type 0} → (ℕ → X) → (ℕ → X) → Arg → X → Type 0
@@ -67,3 +68,16 @@ IsBelow bound c = c < bound
 -- different constants with numbers below the bound stand for different terms
 abbrev pub AreApart : {X : Type 0} → (ℕ → X) → ℕ → Type 0
 AreApart constant bound = (c d : ℕ) → IsBelow bound c → IsBelow bound d → constant c ≡ constant d → c ≡ d
+
+-- some assignment makes the two atoms one fact
+pub record Unifiable {X : Type 0} (constant : ℕ → X) (g h : Atom) : Type 0 where
+  pub under : ℕ → X
+  pub fact : Fact X
+  pub first_is : Match constant under g fact
+  pub second_is : Match constant under h fact
+
+-- there is a query in which the atoms at i and j are unified, and it has the tuple
+pub record UnifiedHas {X : Type 0} (constant : ℕ → X) (P : Fact X → Type 0) (q : Cq) (i j : ℕ) (tuple : List X) : Type 0 where
+  pub by : Cq
+  pub is : unified q i j ≡ Some by
+  pub has : HasTuple constant P by tuple

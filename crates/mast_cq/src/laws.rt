@@ -1,12 +1,13 @@
 //! What the normal form and unification mean, as laws that no code calls.
-ghost use Rattle.std.specs.Prelude.{◌≡◌, ℕ, List, Some, Contains, ◌↔◌};
+ghost use Rattle.std.specs.Prelude.{◌≡◌, ℕ, List, Some, None, Contains, ◌↔◌, slice_get};
+ghost use Rattle.std.specs.List.{AllByRecursion};
 ghost use Rattle.mast_cq.specs.declared.atom.Arg.{Arg};
 ghost use Rattle.mast_cq.specs.declared.atom.Atom.{Atom};
 ghost use Rattle.mast_cq.specs.declared.query.Cq.{Cq};
-ghost use Rattle.mast_cq.specs.Meanings.{Fact, Match, HasTuple};
+ghost use Rattle.mast_cq.specs.Meanings.{Fact, Gives, Match, MetBy, HasTuple};
 ghost use Rattle.mast_cq.specs.NormalForms.{normal_form, IsNormal, Spread};
-ghost use Rattle.mast_cq.specs.Unification.{Meeting, meeting};
-ghost use Rattle.mast_cq.specs.UnifierMeanings.{AreApart, IsBelow, Joined, KnownAtom, Parts};
+ghost use Rattle.mast_cq.specs.Unification.{Meeting, meeting, unified};
+ghost use Rattle.mast_cq.specs.UnifierMeanings.{AreApart, IsBelow, Joined, KnownAtom, Parts, Unifiable, UnifiedHas};
 
 /// The normal form is normal: no variable outside the answer list stands in exactly one place, the atoms are in order,
 /// and each stands once. So a variable that stands in an atom is an answer, or stands in a second place.
@@ -21,13 +22,22 @@ pub fn normal_meaning_law<X>()
 {}
 
 /// Unifying is complete: where one fact is met by both atoms under an assignment, the meeting exists, the assignment
-/// respects its replacement, and the fact is its atom. Different constants must stand for different terms.
+/// respects its replacement, and the fact is its atom. So the unified query has what the query has under the assignment.
+/// Different constants must stand for different terms.
 pub fn unify_complete_law<X>()
-    ensures { (constant : ℕ → X) (bound : ℕ) (answer : List Arg) (s : ℕ → X) (g h : Atom) (f : Fact X) → AreApart constant bound → KnownAtom (IsBelow bound) g → KnownAtom (IsBelow bound) h → Match constant s g f → Match constant s h f → Joined constant s f (meeting answer g h) }
+    ensures meeting { (constant : ℕ → X) (bound : ℕ) (answer : List Arg) (s : ℕ → X) (g h : Atom) (f : Fact X) → AreApart constant bound → KnownAtom (IsBelow bound) g → KnownAtom (IsBelow bound) h → Match constant s g f → Match constant s h f → Joined constant s f (meeting answer g h) }
+    ensures query { (constant : ℕ → X) (bound : ℕ) (facts : List (Fact X)) (q : Cq) (i j : ℕ) (tuple : List X) (g h : Atom) (f : Fact X) (s : ℕ → X) → AreApart constant bound → slice_get q.atoms i ≡ Some g → slice_get q.atoms j ≡ Some h → KnownAtom (IsBelow bound) g → KnownAtom (IsBelow bound) h → Match constant s g f → Match constant s h f → Contains facts f → AllByRecursion (MetBy constant (Contains facts) s) q.atoms → Gives constant s q.answer tuple → UnifiedHas constant (Contains facts) q i j tuple }
 {}
 
 /// Unifying is sound: a unified atom splits back. No variable becomes `_`, and what the unified atom is under an
-/// assignment, both atoms are after the replacement.
+/// assignment, both atoms are after the replacement. So the query has each tuple that the unified query has.
 pub fn unify_sound_law<X>()
-    ensures { (constant : ℕ → X) (answer : List Arg) (g h : Atom) (m : Meeting) → meeting answer g h ≡ Some m → Parts constant g h m }
+    ensures meeting { (constant : ℕ → X) (answer : List Arg) (g h : Atom) (m : Meeting) → meeting answer g h ≡ Some m → Parts constant g h m }
+    ensures query { (constant : ℕ → X) (facts : List (Fact X)) (q r : Cq) (i j : ℕ) (tuple : List X) → unified q i j ≡ Some r → HasTuple constant (Contains facts) r tuple → HasTuple constant (Contains facts) q tuple }
+{}
+
+/// Two atoms do not unify exactly where no assignment makes them one fact, different constants standing for different
+/// terms: they differ in kind or name, or two different constants would have to be equal.
+pub fn unify_none_law<X>()
+    ensures { (constant : ℕ → X) (bound : ℕ) (answer : List Arg) (g h : Atom) → AreApart constant bound → KnownAtom (IsBelow bound) g → KnownAtom (IsBelow bound) h → (meeting answer g h ≡ None) ↔ (Unifiable constant g h → ⊥) }
 {}
