@@ -10,3 +10,5 @@ pub mod JoinLemmas
 pub mod PartsLemmas
 pub mod PlaceLemmas
 pub mod UnifiedLemmas
+pub mod PropertyLemmas
+pub mod TakesLemmas

@@ -6,3 +6,5 @@ pub mod NormalForms
 pub mod Blanks
 pub mod Meanings
 pub mod UnifierMeanings
+pub mod Properties
+pub mod ListPlaces

@@ -4,8 +4,11 @@ ghost use Rattle.std.specs.List.{AllByRecursion};
 ghost use Rattle.mast_cq.specs.declared.atom.Arg.{Arg};
 ghost use Rattle.mast_cq.specs.declared.atom.Atom.{Atom};
 ghost use Rattle.mast_cq.specs.declared.query.Cq.{Cq};
-ghost use Rattle.mast_cq.specs.Meanings.{Fact, Gives, Match, MetBy, HasTuple};
+ghost use Rattle.mast_cq.specs.Meanings.{Fact, Fits, Gives, Match, MetBy, HasTuple};
 ghost use Rattle.mast_cq.specs.NormalForms.{normal_form, IsNormal, Spread};
+ghost use Rattle.mast_cq.specs.ListPlaces.{TwoPlaces};
+ghost use Rattle.mast_cq.specs.Properties.{Property, prop_atom, prop_fact, IsPair};
+ghost use Rattle.mast_cq.specs.Queries.{TakesTwo};
 ghost use Rattle.mast_cq.specs.Unification.{Meeting, meeting, unified};
 ghost use Rattle.mast_cq.specs.UnifierMeanings.{AreApart, IsBelow, Joined, KnownAtom, Parts, Unifiable, UnifiedHas};
 
@@ -40,4 +43,16 @@ pub fn unify_sound_law<X>()
 /// terms: they differ in kind or name, or two different constants would have to be equal.
 pub fn unify_none_law<X>()
     ensures { (constant : ℕ → X) (bound : ℕ) (answer : List Arg) (g h : Atom) → AreApart constant bound → KnownAtom (IsBelow bound) g → KnownAtom (IsBelow bound) h → (meeting answer g h ≡ None) ↔ (Unifiable constant g h → ⊥) }
+{}
+
+/// The atom of a property is a fact under an assignment exactly where the fact is a pair of the property whose terms
+/// the two arguments may stand for.
+pub fn property_law<X>()
+    ensures inward { (constant s : ℕ → X) (p : Property) (x y : Arg) (t u : X) → Fits constant s x t → Fits constant s y u → Match constant s (prop_atom p x y) (prop_fact p t u) }
+    ensures outward { (constant s : ℕ → X) (p : Property) (x y : Arg) (f : Fact X) → Match constant s (prop_atom p x y) f → IsPair constant s p x y f }
+{}
+
+/// Two atoms are taken out of a list in this order exactly where they stand at two places, the first before the second.
+pub fn places_law()
+    ensures { (atoms rest : List Atom) (g h : Atom) → TakesTwo atoms g h rest ↔ TwoPlaces atoms g h rest }
 {}

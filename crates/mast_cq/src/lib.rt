@@ -13,9 +13,13 @@ mod unifier;
 
 pub use atom::{Arg, Atom, arg_laws, atom_laws};
 pub use laws::{
-    normal_form_law, normal_meaning_law, unify_complete_law, unify_none_law, unify_sound_law,
+    normal_form_law, normal_meaning_law, places_law, property_law, unify_complete_law,
+    unify_none_law, unify_sound_law,
 };
 pub use normal_form::norm;
 pub use query::{Cq, CqRef, Ucq, query_laws, view_laws};
 pub use sorts::{SortClash, sort_breach};
 pub use unifier::{Binding, Bindings, Met, meet, unify};
+
+#[cfg(test)]
+mod tests;
