@@ -168,3 +168,12 @@ put_ordered g (h ∷ hs) w = put_by g h hs (put g hs) (atom_order g h) refl w (�
 pub in_order_ordered : (gs : List Atom) → Ordered (in_order gs)
 in_order_ordered [] = tt
 in_order_ordered (g ∷ gs) = put_ordered g (in_order gs) (in_order_ordered gs)
+
+-- atoms in order stay as they are
+put_first : (g : Atom) (gs : List Atom) → IsBefore g gs → put g gs ≡ g ∷ gs
+put_first g [] b = refl
+put_first g (h ∷ hs) b = ap (λ o. insert_by o g h hs (put g hs)) b
+
+pub ordered_same : (gs : List Atom) → Ordered gs → in_order gs ≡ gs
+ordered_same [] w = refl
+ordered_same (g ∷ gs) w = ap (put g) (ordered_same gs w.1) ∙ put_first g gs w.0

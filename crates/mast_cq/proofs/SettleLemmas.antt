@@ -17,7 +17,7 @@ use Rattle.mast_cq.specs.Queries.{has_var, Takes, first, later, arg_key, atom_ke
 use Rattle.mast_cq.specs.Sorts.{or_else}
 use Rattle.mast_cq.specs.NormalForms.{arg_uses, atom_uses, uses, arg_places, atom_places, places, blank_arg, blank, alone, first_arg, first_atom, first_var, insert_by, put, in_order, without, settle, normal_form, IsBefore, Ordered, IsNormal, Occurs, Twice, Elsewhere, InAnswer, Spread}
 use Rattle.mast_cq.specs.Blanks.{blanked_all}
-use Rattle.mast_cq.proofs.OrderLemmas.{order_places, map_places, in_order_ordered}
+use Rattle.mast_cq.proofs.OrderLemmas.{order_places, order_length, map_places, in_order_ordered, ordered_same}
 use Rattle.mast_cq.proofs.AloneLemmas.{alone_parts, first_true, alone_none, spread_of}
 
 -- where no place has a variable there is none to be found
@@ -124,3 +124,34 @@ normal_form_normal q = record {
 -- and a variable that stands in it is an answer, or stands in a second place
 pub normal_form_spread : (q : Cq) → Spread (normal_form q)
 normal_form_spread q = spread_of (normal_form q) (settle_none q.answer (places q.atoms) (in_order q.atoms) (order_places q.atoms))
+
+-- what is normal stays as it is
+pub normal_fixed : (q : Cq) → IsNormal q → normal_form q ≡ q
+normal_fixed q n =
+    ap (λ gs. record { answer = q.answer; atoms = gs }) (settle_done q.answer (places q.atoms) (in_order q.atoms) (subst (λ gs. first_var (alone q.answer gs) gs ≡ None) (sym same) (none (first_var (alone q.answer q.atoms) q.atoms) refl)) ∙ same)
+  where
+    same : in_order q.atoms ≡ q.atoms
+    same = ordered_same q.atoms n.ordered
+
+    none : (o : Option ℕ) → first_var (alone q.answer q.atoms) q.atoms ≡ o → o ≡ None
+    none None e = refl
+    none (Some m) e = let k = alone_parts q.answer q.atoms m (first_true (alone q.answer q.atoms) q.atoms m e) in absurd (n.none_alone m k.0 k.1)
+
+-- and there are no more atoms than before
+map_length : (n : ℕ) (gs : List Atom) → length (map (blank n) gs) ≡ length gs
+map_length n [] = refl
+map_length n (g ∷ gs) = ap suc (map_length n gs)
+
+without_length : (n : ℕ) (gs : List Atom) → length (without n gs) ≤ length gs
+without_length n gs = let a = order_length (map (blank n) gs) in let b = map_length n gs in omega arith
+
+settle_length : (answer : List Arg) (k : ℕ) (gs : List Atom) → length (settle answer k gs) ≤ length gs
+settle_length answer zero gs = omega arith
+settle_length answer (suc k) gs = go (first_var (alone answer gs) gs) (λ n. settle_length answer k (without n gs))
+  where
+    go : (o : Option ℕ) → ((n : ℕ) → length (settle answer k (without n gs)) ≤ length (without n gs)) → length (elim o as (λ i. List Atom) [ None ↦ gs | Some n ↦ settle answer k (without n gs) ]) ≤ length gs
+    go None f = omega arith
+    go (Some n) f = let a = f n in let b = without_length n gs in omega arith
+
+pub normal_form_length : (q : Cq) → length (normal_form q).atoms ≤ length q.atoms
+normal_form_length q = let a = settle_length q.answer (places q.atoms) (in_order q.atoms) in let b = order_length q.atoms in omega arith

@@ -1,5 +1,5 @@
 //! What the normal form and unification mean, as laws that no code calls.
-ghost use Rattle.std.specs.Prelude.{◌≡◌, ℕ, List, Some, None, Contains, ◌↔◌, slice_get};
+ghost use Rattle.std.specs.Prelude.{◌≡◌, ◌≤◌, ℕ, length, List, Some, None, Contains, ◌↔◌, slice_get};
 ghost use Rattle.std.specs.List.{AllByRecursion};
 ghost use Rattle.mast_cq.specs.declared.atom.Arg.{Arg};
 ghost use Rattle.mast_cq.specs.declared.atom.Atom.{Atom};
@@ -13,10 +13,13 @@ ghost use Rattle.mast_cq.specs.Unification.{Meeting, meeting, unified};
 ghost use Rattle.mast_cq.specs.UnifierMeanings.{AreApart, IsBelow, Joined, KnownAtom, Parts, Unifiable, UnifiedHas};
 
 /// The normal form is normal: no variable outside the answer list stands in exactly one place, the atoms are in order,
-/// and each stands once. So a variable that stands in an atom is an answer, or stands in a second place.
+/// and each stands once. So a variable that stands in an atom is an answer, or stands in a second place. What is normal
+/// stays as it is, and there are never more atoms than before.
 pub fn normal_form_law()
     ensures normal { (q : Cq) → IsNormal (normal_form q) }
     ensures spread { (q : Cq) → Spread (normal_form q) }
+    ensures fixed { (q : Cq) → IsNormal q → normal_form q ≡ q }
+    ensures fewer { (q : Cq) → length (normal_form q).atoms ≤ length q.atoms }
 {}
 
 /// A query and its normal form have the same tuples over the same facts, whatever the constants stand for.

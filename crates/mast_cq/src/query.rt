@@ -38,7 +38,7 @@ pub fn query_laws()
     atom_laws();
 }
 
-/// And so are two views.
+/// Two views are equal exactly where their contents are equal, and their order is that of their contents.
 pub fn view_laws()
     ensures equal { (q r : CqRef) → (⟦<CqRef<'static> as PartialEq>⟧.eq q r ≡ true) ↔ (viewed q ≡ viewed r) }
     ensures order { (q r : CqRef) → ⟦<CqRef<'static> as Ord>⟧.cmp q r ≡ query_order (viewed q) (viewed r) }
