@@ -1,0 +1,42 @@
+-- Rows of one width, and places in them.
+use Rattle.std.proofs.Common.{◌≡◌, ◌≤◌, ◌<◌, ◌-◌, ◌+◌, ℕ, zero, suc, List, [], ◌∷◌, length, get_or, subst, sym, ap, refl, arith}
+use Rattle.std.specs.List.{AllByRecursion}
+use Rattle.mast_tables.specs.declared.declaration.Column.{Column}
+use Rattle.mast_tables.specs.Breach.{IsRow, AreRows, HasRows}
+use Rattle.mast_tables.specs.Records.{Record}
+use Rattle.mast_tables.specs.Rows.{Row, IsPlace}
+use Rattle.mast_cli.specs.Columns.{AreColumns, AreWide}
+
+-- a row of rows of one width has that width
+wide_at : (width : ℕ) (rows : List Row) → AreWide width rows → (i : ℕ) → i < length rows → length (get_or rows i []) ≡ width
+wide_at width [] h i less = absurd (omega arith)
+wide_at width (row ∷ rows) h zero less = h.0
+wide_at width (row ∷ rows) h (suc i) less = wide_at width rows h.1 i (omega arith)
+
+-- columns of the table are places of each row
+pub places : (width : ℕ) (rows : List Row) (row : ℕ) → AreWide width rows → 1 ≤ row → row ≤ length rows → (columns : List ℕ) → AreColumns width columns → AllByRecursion (λ column. IsPlace rows row column) columns
+places width rows row wide from to [] h = tt
+places width rows row wide from to (column ∷ columns) h =
+    let same = wide_at width rows wide (row - 1) (omega arith) in
+    (record { row_from = from; row_to = to; column_from = h.0.0; column_to = subst (λ n. column ≤ n) (sym same) h.0.1 },
+     places width rows row wide from to columns h.1)
+
+-- a row has as many cells as there are columns
+row_wide : (columns : List Column) (fields : Record) (row : Row) → IsRow columns fields row → length row ≡ length columns
+row_wide [] [] [] h = refl
+row_wide [] [] (value ∷ row) h = absurd h
+row_wide [] (cell ∷ fields) row h = absurd h
+row_wide (column ∷ columns) [] row h = absurd h
+row_wide (column ∷ columns) (cell ∷ fields) [] h = absurd h
+row_wide (column ∷ columns) (cell ∷ fields) (value ∷ row) h = ap suc (row_wide columns fields row h.1)
+
+are_wide : (columns : List Column) (records : List Record) (rows : List Row) → AreRows columns records rows → AreWide (length columns) rows
+are_wide columns [] [] h = tt
+are_wide columns [] (row ∷ rows) h = absurd h
+are_wide columns (fields ∷ records) [] h = absurd h
+are_wide columns (fields ∷ records) (row ∷ rows) h = (row_wide columns fields row h.0, are_wide columns records rows h.1)
+
+-- the rows of a table file have as many cells as there are columns
+pub rows_wide : (columns : List Column) (most : ℕ) (records : List Record) (rows : List Row) → HasRows columns most records rows → AreWide (length columns) rows
+rows_wide columns most [] rows h = absurd h
+rows_wide columns most (header ∷ records) rows h = are_wide columns records rows h.2

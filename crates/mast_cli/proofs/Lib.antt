@@ -1,0 +1,2 @@
+mod ColumnsLemmas
+mod TokensLemmas

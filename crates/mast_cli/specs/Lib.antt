@@ -1,0 +1,5 @@
+pub mod Causes
+pub mod Codes
+pub mod Columns
+pub mod Headline
+pub mod Mappings

@@ -1,0 +1,48 @@
+// The top call.
+ghost use Rattle.std.specs.Prelude.{◌≡◌, ◌<◌};
+ghost use Rattle.mast_files.specs.Causes.{Rose};
+ghost use Rattle.mast_cli.specs.Headline.{IsAnswer, IsNoAnswer, GivesFaultLine};
+
+use crate::stages::judge;
+use crate::status::Status;
+use mast_files::{Files, Sink, write_all_of};
+use mast_terms::NoMemory;
+use std::alloc::Global;
+use std::thread::Threads;
+
+/// Does what the words ask for: reads `files`, and writes the answer's text to `sink`.
+///
+/// The text is built whole before the first byte is written. So on NoMemory nothing is written, and a
+/// WriteFault leaves a prefix of the text that was to be written.
+pub fn run<Rt: Threads + Sync, F: Files, S: Sink>(
+    rt: &Rt,
+    alloc: Global,
+    words: &[String],
+    files: &mut F,
+    sink: &mut S,
+) -> Status
+    // An answer comes only where no fault came.
+    ensures quiet { IsAnswer result → (F.faults files.new ≡ F.faults files.old) × (S.faults sink.new ≡ S.faults sink.old) }
+
+    // A read fault comes only where the count of the files' faults rose; the sink was given exactly its line.
+    ensures read_fault { result ≡ Status.ReadFault → Rose (F.faults files.old) (F.faults files.new) }
+    ensures read_fault_line { result ≡ Status.ReadFault → GivesFaultLine (F.reading files.new) (S.written sink.old) (S.written sink.new) }
+
+    // A write fault comes only where the count of the sink's faults rose.
+    ensures write_fault { result ≡ Status.WriteFault → Rose (S.faults sink.old) (S.faults sink.new) }
+
+    // Without memory nothing is written.
+    ensures no_memory { result ≡ Status.NoMemory → S.written sink.new ≡ S.written sink.old }
+
+    // A fault of the files is told.
+    ensures told { F.faults files.old < F.faults files.new → IsNoAnswer result }
+{
+    let _ = rt;
+    match judge(alloc, words, files) {
+        Ok(judged) => match write_all_of(sink, &judged.text) {
+            Ok(()) => judged.status,
+            Err(_) => Status::WriteFault,
+        },
+        Err(NoMemory) => Status::NoMemory,
+    }
+}
