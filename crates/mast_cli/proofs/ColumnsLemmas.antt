@@ -1,5 +1,5 @@
 -- Rows of one width, and places in them.
-use Rattle.std.proofs.Common.{◌≡◌, ◌≤◌, ◌<◌, ◌-◌, ◌+◌, ℕ, zero, suc, List, [], ◌∷◌, length, get_or, subst, sym, ap, refl, arith}
+use Rattle.std.proofs.Common.{◌≡◌, ◌≤◌, ◌<◌, ◌-◌, ℕ, zero, suc, List, [], ◌∷◌, length, get_or, subst, sym, ap, refl, arith}
 use Rattle.std.specs.List.{AllByRecursion}
 use Rattle.mast_tables.specs.declared.declaration.Column.{Column}
 use Rattle.mast_tables.specs.Breach.{IsRow, AreRows, HasRows}
@@ -17,9 +17,10 @@ wide_at width (row ∷ rows) h (suc i) less = wide_at width rows h.1 i (omega ar
 pub places : (width : ℕ) (rows : List Row) (row : ℕ) → AreWide width rows → 1 ≤ row → row ≤ length rows → (columns : List ℕ) → AreColumns width columns → AllByRecursion (λ column. IsPlace rows row column) columns
 places width rows row wide from to [] h = tt
 places width rows row wide from to (column ∷ columns) h =
-    let same = wide_at width rows wide (row - 1) (omega arith) in
-    (record { row_from = from; row_to = to; column_from = h.0.0; column_to = subst (λ n. column ≤ n) (sym same) h.0.1 },
-     places width rows row wide from to columns h.1)
+    let same = wide_at width rows wide (row - 1) (omega arith) in (
+      record { row_from = from; row_to = to; column_from = h.0.0; column_to = subst (λ n. column ≤ n) (sym same) h.0.1 },
+      places width rows row wide from to columns h.1,
+    )
 
 -- a row has as many cells as there are columns
 row_wide : (columns : List Column) (fields : Record) (row : Row) → IsRow columns fields row → length row ≡ length columns

@@ -1,5 +1,5 @@
 -- What a run owes to the files and the sink that it is lent.
-use Rattle.std.specs.Prelude.{◌≡◌, ⊤, true, List, ℕ, take, Option, Some, ◌++◌, [], ◌∷◌, codes}
+use Rattle.std.specs.Prelude.{◌≡◌, ⊤, true, List, ℕ, Option, Some, ◌++◌, [], ◌∷◌, codes}
 use Rattle.mast_cli.specs.declared.status.Status.{Status}
 use Rattle.mast_cli.specs.declared.status.Status.TheVariants as st
 use Rattle.mast_files.specs.Outside.{Reading, Gains}

@@ -1,5 +1,5 @@
 -- There are no more tokens than bytes.
-use Rattle.std.proofs.Common.{◌≡◌, ◌<◌, ◌≤◌, length, arith, ap}
+use Rattle.std.proofs.Common.{length, arith, ap}
 use Rattle.mast_cli.proofs.TokensLemmas.{tokens_few}
 use Rattle.mast_cli.proofs.stages.judge_document.Goals as goal
 
