@@ -1,21 +1,14 @@
 -- Variables that stand alone, and variables that stand in a second place.
-use Rattle.std.proofs.Common.{◌≡◌, ℕ, zero, suc, ◌+◌, ◌<◌, ◌≤◌, List, [], ◌∷◌, length, map, Bool, true, false, nat_eq, Some, None, Option, ◌⊎◌, inl, inr, sym, refl, ap, ap₂, subst, ◌∙◌, arith, ◌&&◌, ◌||◌, not}
-use Rattle.std.specs.List.{AllByRecursion}
-use Rattle.std.specs.declared.cmp.Ordering.{Ordering}
-use Rattle.std.specs.declared.cmp.Ordering.TheVariants.{Less, Equal, Greater}
-use Rattle.std.specs.Ordering.{nat_cmp, ordering_then}
-use Rattle.std.specs.Cmp.Lexicographic.{slice_cmp}
-use Rattle.std.proofs.lemmas.Cmp.{ranked}
+use Rattle.std.proofs.Common.{◌≡◌, ℕ, zero, suc, ◌+◌, ◌<◌, ◌≤◌, List, [], ◌∷◌, Bool, true, false, nat_eq, Some, None, Option, ◌⊎◌, inl, inr, sym, refl, ap, subst, arith, ◌&&◌, ◌||◌, not}
 use borrow.Author.Tests.{eqb-true, eq-eqb}
-use Rattle.mast_terms.specs.declared.name.Name.{Name}
 use Rattle.mast_cq.specs.declared.atom.Arg.{Arg}
 use Rattle.mast_cq.specs.declared.atom.Arg.TheVariants.{Blank, Var, Constant}
 use Rattle.mast_cq.specs.declared.atom.Atom.{Atom}
 use Rattle.mast_cq.specs.declared.atom.Atom.TheVariants.{Class, Role, Attr}
 use Rattle.mast_cq.specs.declared.query.Cq.{Cq}
-use Rattle.mast_cq.specs.Queries.{has_var, Takes, first, later, arg_key, atom_key, atom_order}
+use Rattle.mast_cq.specs.Queries.{has_var, Takes, first, later}
 use Rattle.mast_cq.specs.Sorts.{or_else}
-use Rattle.mast_cq.specs.NormalForms.{arg_uses, atom_uses, uses, arg_places, atom_places, places, blank_arg, blank, alone, first_arg, first_atom, first_var, insert_by, put, in_order, without, settle, normal_form, IsBefore, Ordered, IsNormal, Occurs, Twice, Elsewhere, InAnswer, Spread}
+use Rattle.mast_cq.specs.NormalForms.{arg_uses, atom_uses, uses, alone, first_arg, first_atom, first_var, Occurs, Twice, Elsewhere, InAnswer, Spread}
 
 pub or_false : (a b : Bool) → (a || b) ≡ false → (a ≡ false) × (b ≡ false)
 or_false true b e = absurd (cc)

@@ -1,5 +1,5 @@
 -- What the program puts together is the meeting.
-use Rattle.std.proofs.Common.{◌≡◌, ℕ, List, Option, Some, None, true, false, ap, ap₂, ◌∙◌}
+use Rattle.std.proofs.Common.{◌≡◌, List, Option, Some, None, true, false, ap, ap₂, ◌∙◌}
 use borrow.Author.Tests.{eq-eqb}
 use Rattle.mast_terms.specs.declared.name.Name.{Name}
 use Rattle.mast_cq.specs.declared.atom.Arg.{Arg}

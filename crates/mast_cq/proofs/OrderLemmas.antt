@@ -1,21 +1,18 @@
 -- Atoms in order, each once, and what stays as they are put in order.
-use Rattle.std.proofs.Common.{◌≡◌, ℕ, zero, suc, ◌+◌, ◌<◌, ◌≤◌, List, [], ◌∷◌, length, map, Bool, true, false, nat_eq, Some, None, Option, ◌⊎◌, inl, inr, sym, refl, ap, ap₂, subst, ◌∙◌, arith, ◌&&◌, ◌||◌, not}
+use Rattle.std.proofs.Common.{◌≡◌, ℕ, suc, ◌+◌, ◌≤◌, List, [], ◌∷◌, length, map, Bool, true, false, nat_eq, sym, refl, ap, ap₂, ◌∙◌, arith}
 use Rattle.std.specs.List.{AllByRecursion}
 use Rattle.std.specs.declared.cmp.Ordering.{Ordering}
 use Rattle.std.specs.declared.cmp.Ordering.TheVariants.{Less, Equal, Greater}
 use Rattle.std.specs.Ordering.{nat_cmp, ordering_then, ordering_reverse}
 use Rattle.std.specs.Cmp.Lexicographic.{slice_cmp}
 use Rattle.std.proofs.lemmas.Cmp.{ranked, nat_list_cmp_total}
-use borrow.Author.Tests.{eqb-true, eq-eqb}
 use Rattle.mast_terms.specs.declared.name.Name.{Name}
 use Rattle.mast_cq.specs.declared.atom.Arg.{Arg}
 use Rattle.mast_cq.specs.declared.atom.Arg.TheVariants.{Blank, Var, Constant}
 use Rattle.mast_cq.specs.declared.atom.Atom.{Atom}
 use Rattle.mast_cq.specs.declared.atom.Atom.TheVariants.{Class, Role, Attr}
-use Rattle.mast_cq.specs.declared.query.Cq.{Cq}
-use Rattle.mast_cq.specs.Queries.{has_var, Takes, first, later, arg_key, atom_key, atom_order}
-use Rattle.mast_cq.specs.Sorts.{or_else}
-use Rattle.mast_cq.specs.NormalForms.{arg_uses, atom_uses, uses, arg_places, atom_places, places, blank_arg, blank, alone, first_arg, first_atom, first_var, insert_by, put, in_order, without, settle, normal_form, IsBefore, Ordered, IsNormal, Occurs, Twice, Elsewhere, InAnswer, Spread}
+use Rattle.mast_cq.specs.Queries.{arg_key, atom_key, atom_order}
+use Rattle.mast_cq.specs.NormalForms.{arg_uses, atom_uses, uses, arg_places, atom_places, places, blank_arg, blank, insert_by, put, in_order, IsBefore, Ordered}
 
 -- sorting keeps what holds of each
 slice_case : (x y : ℕ) (xs ys : List ℕ) (o : Ordering) → o ≡ nat_cmp x y → (slice_cmp nat_cmp xs ys ≡ Equal → xs ≡ ys) → ordering_then o (slice_cmp nat_cmp xs ys) ≡ Equal → (x ∷ xs) ≡ (y ∷ ys)

@@ -1,5 +1,5 @@
 -- What a unified atom is, both atoms were before the replacement.
-use Rattle.std.proofs.Common.{◌≡◌, ℕ, List, [], ◌∷◌, map, Bool, true, false, nat_eq, Some, None, Option, sym, refl, ap, ap₂, subst, ◌∙◌}
+use Rattle.std.proofs.Common.{◌≡◌, ℕ, List, [], ◌∷◌, map, Bool, true, false, nat_eq, Some, None, Option, sym, refl, ap, subst, ◌∙◌}
 use borrow.Author.Tests.{eqb-true, eq-eqb}
 use Rattle.mast_terms.specs.declared.name.Name.{Name}
 use Rattle.mast_cq.specs.declared.atom.Arg.{Arg}
@@ -9,7 +9,7 @@ use Rattle.mast_cq.specs.declared.atom.Atom.TheVariants.{Class, Role, Attr}
 use Rattle.mast_cq.specs.Unification.{Replacement, replace_arg, replace, only, wins, unify_args, fuller, Meeting, after, meeting_of_one, meeting_of_two, meeting_of_pairs, meeting}
 use Rattle.mast_cq.specs.Meanings.{Fact, InClass, InRole, InAttr}
 use Rattle.mast_cq.specs.Meanings.{Fits as FitsBy, Match as MatchBy, Gives as GivesBy}
-use Rattle.mast_cq.specs.UnifierMeanings.{Stands as StandsBy, Respects as RespectsBy, Joined as JoinedBy, KnownArg, KnownAtom, IsProper, Proper, value as value_by, before as before_by, Parts as PartsBy}
+use Rattle.mast_cq.specs.UnifierMeanings.{IsProper, Proper, value as value_by, before as before_by, Parts as PartsBy}
 
 module _ {X : Type 0} (constant : ℕ → X) where
   abbrev Fits : (ℕ → X) → Arg → X → Type 0

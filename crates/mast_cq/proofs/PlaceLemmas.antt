@@ -1,6 +1,6 @@
 -- What holds of each element, and of the element at each place.
 use borrow.Author.Tests.{eqb-true, eq-eqb}
-use Rattle.std.proofs.Common.{◌≡◌, ℕ, zero, suc, Bool, true, false, nat_eq, List, [], ◌∷◌, length, map, slice_get, slice_set, Some, refl, ap, subst, sym, ◌∙◌, arith}
+use Rattle.std.proofs.Common.{◌≡◌, ℕ, zero, suc, Bool, true, false, nat_eq, List, [], ◌∷◌, map, slice_get, slice_set, Some, refl, ap, subst, sym, ◌∙◌}
 use Rattle.std.specs.List.{AllByRecursion}
 
 some_inj : {X : Type 0} (x y : X) → Some x ≡ Some y → x ≡ y

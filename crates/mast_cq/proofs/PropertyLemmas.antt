@@ -1,6 +1,5 @@
 -- What fact the atom of a property is, and what atom a pair is.
-use Rattle.std.proofs.Common.{◌≡◌, ℕ, refl, ap, sym}
-use Rattle.mast_terms.specs.declared.name.Name.{Name}
+use Rattle.std.proofs.Common.{ℕ, refl, ap, sym}
 use Rattle.mast_cq.specs.declared.atom.Arg.{Arg}
 use Rattle.mast_cq.specs.Meanings.{Fact, InClass, InRole, InAttr, Fits, Match}
 use Rattle.mast_cq.specs.Properties.{Property, Direct, Inverse, Values, prop_atom, prop_fact, IsPair}

@@ -1,21 +1,12 @@
 -- What settling does: each variable that becomes `_` frees a place, and at the end none is alone.
-use Rattle.std.proofs.Common.{◌≡◌, ℕ, zero, suc, ◌+◌, ◌<◌, ◌≤◌, List, [], ◌∷◌, length, map, Bool, true, false, nat_eq, Some, None, Option, ◌⊎◌, inl, inr, sym, refl, ap, ap₂, subst, ◌∙◌, arith, ◌&&◌, ◌||◌, not}
-use Rattle.std.specs.List.{AllByRecursion}
-use Rattle.std.specs.declared.cmp.Ordering.{Ordering}
-use Rattle.std.specs.declared.cmp.Ordering.TheVariants.{Less, Equal, Greater}
-use Rattle.std.specs.Ordering.{nat_cmp, ordering_then}
-use Rattle.std.specs.Cmp.Lexicographic.{slice_cmp}
-use Rattle.std.proofs.lemmas.Cmp.{ranked}
-use borrow.Author.Tests.{eqb-true, eq-eqb}
-use Rattle.mast_terms.specs.declared.name.Name.{Name}
+use Rattle.std.proofs.Common.{◌≡◌, ℕ, zero, suc, ◌+◌, ◌≤◌, List, [], ◌∷◌, length, map, Bool, Some, None, Option, sym, refl, ap, subst, ◌∙◌, arith}
 use Rattle.mast_cq.specs.declared.atom.Arg.{Arg}
 use Rattle.mast_cq.specs.declared.atom.Arg.TheVariants.{Blank, Var, Constant}
 use Rattle.mast_cq.specs.declared.atom.Atom.{Atom}
 use Rattle.mast_cq.specs.declared.atom.Atom.TheVariants.{Class, Role, Attr}
 use Rattle.mast_cq.specs.declared.query.Cq.{Cq}
-use Rattle.mast_cq.specs.Queries.{has_var, Takes, first, later, arg_key, atom_key, atom_order}
 use Rattle.mast_cq.specs.Sorts.{or_else}
-use Rattle.mast_cq.specs.NormalForms.{arg_uses, atom_uses, uses, arg_places, atom_places, places, blank_arg, blank, alone, first_arg, first_atom, first_var, insert_by, put, in_order, without, settle, normal_form, IsBefore, Ordered, IsNormal, Occurs, Twice, Elsewhere, InAnswer, Spread}
+use Rattle.mast_cq.specs.NormalForms.{arg_places, atom_places, places, blank, alone, first_arg, first_atom, first_var, in_order, without, settle, normal_form, Ordered, IsNormal, Spread}
 use Rattle.mast_cq.specs.Blanks.{blanked_all}
 use Rattle.mast_cq.proofs.OrderLemmas.{order_places, order_length, map_places, in_order_ordered, ordered_same}
 use Rattle.mast_cq.proofs.AloneLemmas.{alone_parts, first_true, alone_none, spread_of}

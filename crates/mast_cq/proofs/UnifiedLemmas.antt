@@ -1,5 +1,5 @@
 -- A query and the query in which two of its atoms are unified.
-use Rattle.std.proofs.Common.{◌≡◌, ℕ, List, map, Bool, true, false, nat_eq, Some, None, Option, slice_get, slice_set, sym, refl, ap, ap₂, subst, ◌∙◌}
+use Rattle.std.proofs.Common.{◌≡◌, ℕ, List, map, Bool, true, false, nat_eq, Some, None, Option, slice_get, sym, refl, ap, ap₂, subst, ◌∙◌}
 use borrow.Author.Tests.{eqb-true}
 use Rattle.std.specs.List.{AllByRecursion}
 use Rattle.mast_cq.specs.declared.atom.Arg.{Arg}
@@ -7,9 +7,9 @@ use Rattle.mast_cq.specs.declared.atom.Arg.TheVariants.{Blank, Var, Constant}
 use Rattle.mast_cq.specs.declared.atom.Atom.{Atom}
 use Rattle.mast_cq.specs.declared.atom.Atom.TheVariants.{Class, Role, Attr}
 use Rattle.mast_cq.specs.declared.query.Cq.{Cq}
-use Rattle.mast_cq.specs.Unification.{Replacement, replace_arg, replace, Meeting, meeting, met, met_if, meeting_if, unified}
+use Rattle.mast_cq.specs.Unification.{replace, Meeting, meeting, met, met_if, meeting_if, unified}
 use Rattle.mast_cq.specs.Meanings.{Fact, InClass, InRole, InAttr, Fits, Match, Gives, MetBy, HasTuple}
-use Rattle.mast_cq.specs.UnifierMeanings.{Respects, Joined, KnownAtom, Proper, value, before, Parts, UnifiedHas, Unifiable}
+use Rattle.mast_cq.specs.UnifierMeanings.{Joined, KnownAtom, value, before, Parts, UnifiedHas, Unifiable}
 use Rattle.mast_cq.proofs.PlaceLemmas.{all_at, at_all, get_map, there_map, AfterTwo, written, kept, after_two, two_first, two_second, two_other}
 use Rattle.mast_cq.proofs.JoinLemmas.{join, respects_match, respects_gives}
 use Rattle.mast_cq.proofs.PartsLemmas.{parts, match_before, gives_before}

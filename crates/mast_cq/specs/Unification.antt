@@ -1,5 +1,5 @@
 -- Unification: which arguments win, and what two atoms become where they meet.
-use Rattle.std.specs.Prelude.{ℕ, List, ◌∷◌, map, Option, Some, None, Bool, true, false, nat_eq, nat_lt, ◌&&◌, ◌||◌, not, slice_get, slice_set}
+use Rattle.std.specs.Prelude.{ℕ, List, map, Option, Some, None, Bool, true, false, nat_eq, nat_lt, ◌&&◌, ◌||◌, not, slice_get, slice_set}
 use Rattle.mast_cq.specs.declared.atom.Arg.{Arg}
 use Rattle.mast_cq.specs.declared.atom.Arg.TheVariants.{Blank, Var, Constant}
 use Rattle.mast_cq.specs.declared.atom.Atom.{Atom}

@@ -1,6 +1,6 @@
 //! Conjunctive queries: arguments, atoms, their order, sorts, unification and the normal form.
 //! What the crates above rest on: `norm` gives the normal form, `unify` the unified query, and equal views are equal contents.
-//! The words of its contracts stand in specs/Queries.antt, specs/Sorts.antt, specs/Unification.antt and specs/NormalForms.antt.
+//! The words of its contracts stand in specs/Queries.antt, specs/Sorts.antt, specs/Unification.antt, specs/NormalForms.antt and specs/Meanings.antt.
 //! It must not know of vocabularies, axioms, facts of tables, nor how a query is read.
 #![tactic(auto)]
 

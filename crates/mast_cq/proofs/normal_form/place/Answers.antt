@@ -1,5 +1,4 @@
-use Rattle.std.proofs.Common.{◌≡◌, ◌≤◌, ◌<◌, ◌+◌, length, slice_index_or, sym, subst, ◌∙◌, arith, suc}
-use Rattle.mast_terms.specs.declared.name.Name.{Name}
+use Rattle.std.proofs.Common.{◌≡◌, ◌<◌, ◌+◌, length, slice_index_or, sym, subst, ◌∙◌, arith, suc}
 use Rattle.mast_cq.specs.declared.atom.Arg.TheVariants.{Blank}
 use Rattle.mast_cq.specs.declared.atom.Atom.{Atom}
 use Rattle.mast_cq.specs.declared.atom.Atom.TheVariants.{Class}
