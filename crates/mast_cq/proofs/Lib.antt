@@ -12,3 +12,4 @@ pub mod PlaceLemmas
 pub mod UnifiedLemmas
 pub mod PropertyLemmas
 pub mod TakesLemmas
+pub mod MovesLemmas

@@ -5,7 +5,7 @@ ghost use Rattle.mast_cq.specs.declared.atom.Arg.{Arg};
 ghost use Rattle.mast_cq.specs.declared.atom.Atom.{Atom};
 ghost use Rattle.mast_cq.specs.declared.query.Cq.{Cq};
 ghost use Rattle.mast_cq.specs.Meanings.{Fact, Fits, Gives, Match, MetBy, HasTuple};
-ghost use Rattle.mast_cq.specs.NormalForms.{normal_form, IsNormal, Spread};
+ghost use Rattle.mast_cq.specs.NormalForms.{normal_form, IsNormal, Occurs, Spread};
 ghost use Rattle.mast_cq.specs.ListPlaces.{TwoPlaces};
 ghost use Rattle.mast_cq.specs.Properties.{Property, prop_atom, prop_fact, IsPair};
 ghost use Rattle.mast_cq.specs.Queries.{TakesTwo};
@@ -40,6 +40,11 @@ pub fn unify_complete_law<X>()
 pub fn unify_sound_law<X>()
     ensures meeting { (constant : ℕ → X) (answer : List Arg) (g h : Atom) (m : Meeting) → meeting answer g h ≡ Some m → Parts constant g h m }
     ensures query { (constant : ℕ → X) (facts : List (Fact X)) (q r : Cq) (i j : ℕ) (tuple : List X) → unified q i j ≡ Some r → HasTuple constant (Contains facts) r tuple → HasTuple constant (Contains facts) q tuple }
+{}
+
+/// A meeting moves no variable but those of its two atoms.
+pub fn unify_moves_law()
+    ensures { (answer : List Arg) (g h : Atom) (m : Meeting) (n : ℕ) → meeting answer g h ≡ Some m → (Occurs n g → ⊥) → (Occurs n h → ⊥) → m.replacement n ≡ Arg.Var n }
 {}
 
 /// Two atoms do not unify exactly where no assignment makes them one fact, different constants standing for different
