@@ -13,3 +13,4 @@ pub mod UnifiedLemmas
 pub mod PropertyLemmas
 pub mod TakesLemmas
 pub mod MovesLemmas
+pub mod WinnerLemmas

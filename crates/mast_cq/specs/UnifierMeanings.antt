@@ -1,11 +1,11 @@
 -- What unification means: an assignment that makes two atoms one fact, and the atom that they become.
-use Rattle.std.specs.Prelude.{◌≡◌, ℕ, ◌<◌, List, Option, Some}
+use Rattle.std.specs.Prelude.{◌≡◌, ℕ, ◌<◌, List, Option, Some, true, ◌⊎◌}
 use Rattle.mast_cq.specs.declared.atom.Arg.{Arg}
 use Rattle.mast_cq.specs.declared.atom.Arg.TheVariants.{Blank, Var, Constant}
 use Rattle.mast_cq.specs.declared.atom.Atom.{Atom}
 use Rattle.mast_cq.specs.declared.atom.Atom.TheVariants.{Class, Role, Attr}
 use Rattle.mast_cq.specs.Meanings.{Fact, Match, HasTuple}
-use Rattle.mast_cq.specs.Unification.{Replacement, replace, Meeting, unified}
+use Rattle.mast_cq.specs.Unification.{Replacement, replace, wins, Meeting, unified}
 use Rattle.mast_cq.specs.declared.query.Cq.{Cq}
 
 -- the argument is no `_`, and stands for the term
@@ -81,3 +81,9 @@ pub record UnifiedHas {X : Type 0} (constant : ℕ → X) (P : Fact X → Type 0
   pub by : Cq
   pub is : unified q i j ≡ Some by
   pub has : HasTuple constant P by tuple
+
+-- the argument is the variable, or wins over it: a constant, an answer variable over another, and else the lower number
+abbrev pub Beats : List Arg → Arg → ℕ → Type 0
+Beats answer Blank n = ⊥
+Beats answer (Var m) n = (m ≡ n) ⊎ (wins answer m n ≡ true)
+Beats answer (Constant c) n = Unit {0}

@@ -10,7 +10,7 @@ ghost use Rattle.mast_cq.specs.ListPlaces.{TwoPlaces};
 ghost use Rattle.mast_cq.specs.Properties.{Property, prop_atom, prop_fact, IsPair};
 ghost use Rattle.mast_cq.specs.Queries.{TakesTwo};
 ghost use Rattle.mast_cq.specs.Unification.{Meeting, meeting, unified};
-ghost use Rattle.mast_cq.specs.UnifierMeanings.{AreApart, IsBelow, Joined, KnownAtom, Parts, Unifiable, UnifiedHas};
+ghost use Rattle.mast_cq.specs.UnifierMeanings.{AreApart, Beats, IsBelow, Joined, KnownAtom, Parts, Unifiable, UnifiedHas};
 
 /// The normal form is normal: no variable outside the answer list stands in exactly one place, the atoms are in order,
 /// and each stands once. So a variable that stands in an atom is an answer, or stands in a second place. What is normal
@@ -40,6 +40,12 @@ pub fn unify_complete_law<X>()
 pub fn unify_sound_law<X>()
     ensures meeting { (constant : ℕ → X) (answer : List Arg) (g h : Atom) (m : Meeting) → meeting answer g h ≡ Some m → Parts constant g h m }
     ensures query { (constant : ℕ → X) (facts : List (Fact X)) (q r : Cq) (i j : ℕ) (tuple : List X) → unified q i j ≡ Some r → HasTuple constant (Contains facts) r tuple → HasTuple constant (Contains facts) q tuple }
+{}
+
+/// What a variable becomes in a meeting is the variable itself, or wins over it: a constant, or a variable that is an
+/// answer where the other is none, and else one with a lower number.
+pub fn unify_winner_law()
+    ensures { (answer : List Arg) (g h : Atom) (m : Meeting) (n : ℕ) → meeting answer g h ≡ Some m → Beats answer (m.replacement n) n }
 {}
 
 /// A meeting moves no variable but those of its two atoms.
