@@ -11,6 +11,7 @@ use Rattle.mast_tree.specs.declared.token.TokenKind.{TokenKind}
 use Rattle.mast_tree.specs.declared.token.TokenKind.TheVariants.{Iri, Name, Str}
 use Rattle.mast_tree.specs.Tokens.{is_token, iri_rest, str_rest}
 use Rattle.mast_tree.specs.Source.{AreTokens}
+use Rattle.mast_tree.specs.Prefixes.{word_of, word_at, word_bytes}
 use Rattle.mast_tree.specs.Words.{span, inside, escaped, IsWordOf, IsTextOf, has_escape, unescaped}
 use Rattle.mast_tree.proofs.ScanLemmas.{is_byte}
 use Rattle.mast_tree.proofs.Utf8Lemmas.{token_word, iri_inside, str_inside, after_ascii, before_ascii}
@@ -74,6 +75,30 @@ word_iri source tokens i t u bytes inner word k s kind n text =
     let utf8 : IsUtf8 f.0 = between_text 60 62 f.0 (omega arith) (omega arith) (subst IsUtf8 f.1 w.text) in
     let same : f.0 ≡ word = sym (text (subst IsUtf8 (sym is) utf8) ∙ is) in
     subst (λ x. IsWordOf x.kind (span source x) word) (same_token tokens i t u s k.found) (subst (λ x. IsWordOf x (span source u) word) (sym kind) (f.1 ∙ ap (λ x. 60 ∷ (x ++ (62 ∷ []))) same))
+
+-- the word of a token by its number
+
+word_found : (source : List ℕ) (tokens : List Token) (i : ℕ) (u : Token) → slice_get tokens i ≡ Some u → word_of source tokens i ≡ word_bytes u.kind (span source u)
+word_found source tokens i u f = ap (λ x. word_at source x) f
+
+pub value_default : (source : List ℕ) (tokens : List Token) (i : ℕ) (u : Token) (bytes word : List ℕ) → Taken source tokens i u bytes → (u.kind ≡ Iri → ⊥) → (IsUtf8 bytes → word ≡ bytes) → word ≡ word_of source tokens i
+value_default source tokens i u bytes word k other text =
+    let w = token_word source tokens i u k.tokens_of k.found in
+    let e = bytes_are source tokens i u bytes k in
+    text (subst IsUtf8 (sym e) w.text) ∙ e ∙ go u.kind other ∙ sym (word_found source tokens i u k.found)
+  where
+    go : (k : TokenKind) → (k ≡ Iri → ⊥) → span source u ≡ word_bytes k (span source u)
+    go Iri h = absurd (h refl)
+    go _ h = refl
+
+pub value_iri : (source : List ℕ) (tokens : List Token) (i : ℕ) (u : Token) (bytes inner word : List ℕ) → Taken source tokens i u bytes → u.kind ≡ Iri → inner ≡ inside bytes → (IsUtf8 inner → word ≡ inner) → word ≡ word_of source tokens i
+value_iri source tokens i u bytes inner word k kind n text =
+    let w = token_word source tokens i u k.tokens_of k.found in
+    let f = iri_form (span source u) (subst (λ x. is_token x (span source u) ≡ true) kind w.form) in
+    let e = bytes_are source tokens i u bytes k in
+    let is : inner ≡ f.0 = n ∙ ap inside (e ∙ f.1) ∙ inside_of 60 62 f.0 in
+    let utf8 : IsUtf8 f.0 = between_text 60 62 f.0 (omega arith) (omega arith) (subst IsUtf8 f.1 w.text) in
+    text (subst IsUtf8 (sym is) utf8) ∙ n ∙ ap inside e ∙ ap (λ x. word_bytes x (span source u)) (sym kind) ∙ sym (word_found source tokens i u k.found)
 
 -- escapes
 

@@ -4,8 +4,11 @@ pub mod Laws
 pub mod Lexed
 pub mod Machine
 pub mod Outcome
+pub mod Parts
+pub mod Prefixes
 pub mod Scan
 pub mod Source
+pub mod Tables
 pub mod Tokens
 pub mod Trees
 pub mod Words

@@ -1,6 +1,7 @@
 // The texts of a document's tokens.
 ghost use Rattle.std.specs.Prelude.{◌≡◌, ◌≤◌, ◌-◌, Some, slice_get, take, drop, length, false, IfOk};
 ghost use Rattle.std.specs.Str.{IsUtf8};
+ghost use Rattle.mast_tree.specs.Prefixes.{line_of, word_of};
 ghost use Rattle.mast_tree.specs.Source.{AreTokens};
 ghost use Rattle.mast_tree.specs.Words as words;
 ghost use Rattle.mast_tree.specs.Words.{span, IsWordOf, IsTextOf};
@@ -79,7 +80,9 @@ impl<'a> Doc<'a> {
     }
 
     /// The line of a token.
-    pub(crate) fn line(&self, token: u32) -> u32 {
+    pub(crate) fn line(&self, token: u32) -> u32
+        ensures { result ≡ line_of self.now.tokens.now token }
+    {
         match self.token(token) {
             None => 1,
             Some(t) => t.line,
@@ -88,7 +91,8 @@ impl<'a> Doc<'a> {
 
     /// The text of a name's token, or that of an IRI's without its brackets.
     pub fn word(&self, token: u32) -> &'a str
-        ensures { AreTokens self.now.source.now self.now.tokens.now → (t : AToken) → slice_get self.now.tokens.now token ≡ Some t → IsWordOf t.kind (span self.now.source.now t) result.now }
+        ensures value { AreTokens self.now.source.now self.now.tokens.now → result.now ≡ word_of self.now.source.now self.now.tokens.now token }
+        ensures form { AreTokens self.now.source.now self.now.tokens.now → (t : AToken) → slice_get self.now.tokens.now token ≡ Some t → IsWordOf t.kind (span self.now.source.now t) result.now }
     {
         match self.token(token) {
             None => "",
