@@ -30,7 +30,7 @@ drop_split w rest bs n e l = ap (λ m. drop m bs) (sym l) ∙ ap (λ x. drop (le
 
 -- a token has a byte at least, and begins no blank and no comment
 
-word_some : (k : TokenKind) (w : List ℕ) → is_token k w ≡ true → 0 < length w
+pub word_some : (k : TokenKind) (w : List ℕ) → is_token k w ≡ true → 0 < length w
 word_some k [] h = absurd (cc)
 word_some k (b ∷ w) h = omega arith
 

@@ -302,7 +302,7 @@ lexed_word source (v ∷ ts) at line bs i t a u l s =
         })
     go (suc i) s cut here next more = more i s next cut.1
 
-mark_within : (source : List ℕ) → mark_of source ≤ length source
+pub mark_within : (source : List ℕ) → mark_of source ≤ length source
 mark_within [] = omega arith
 mark_within (a ∷ []) = omega arith
 mark_within (a ∷ b ∷ []) = omega arith

@@ -1,10 +1,12 @@
 -- Laws of the definitions.
-use Rattle.std.specs.Prelude.{◌≡◌, ℕ, List, ◌⊎◌}
+use Rattle.std.specs.Prelude.{◌≡◌, ℕ, suc, ◌+◌, ◌<◌, ◌≤◌, true, List, length, take, Some, slice_get, ◌⊎◌}
 use Rattle.mast_tree.specs.declared.token.LexBreach.{LexBreach}
 use Rattle.mast_tree.specs.Source.{AreTokens, IsLexBreach}
 use Rattle.mast_tree.specs.declared.token.Token.{Token}
 use Rattle.mast_tree.specs.declared.item.Item.{Item}
 use Rattle.mast_tree.specs.declared.item.TreeBreach.{TreeBreach}
+use Rattle.mast_tree.specs.Tokens.{is_token, feeds}
+use Rattle.mast_tree.specs.Words.{span}
 use Rattle.mast_tree.specs.Trees.{IsTree, IsTreeBreach}
 
 -- tokens have one tree, or one first breach, and not both
@@ -26,3 +28,18 @@ pub record HasOneReading (source : List ℕ) : Type 0 where
 
 abbrev pub TokenLaw : Type 0
 TokenLaw = (source : List ℕ) → HasOneReading source
+
+-- a token is a slice of the source, of its kind's form, and its line is 1 and the line feeds before it
+pub record IsPlaced (source : List ℕ) (t : Token) : Type 0 where
+  pub order : t.from < t.to
+  pub within : t.to ≤ length source
+  pub form : is_token t.kind (span source t) ≡ true
+  pub line : t.line ≡ 1 + feeds (take t.from source)
+
+-- each token of a source is placed so, and the tokens are in order
+pub record ArePlaced (source : List ℕ) (tokens : List Token) : Type 0 where
+  pub each : (i : ℕ) (t : Token) → slice_get tokens i ≡ Some t → IsPlaced source t
+  pub in_order : (i : ℕ) (t u : Token) → slice_get tokens i ≡ Some t → slice_get tokens (suc i) ≡ Some u → t.to ≤ u.from
+
+abbrev pub SpanLaw : Type 0
+SpanLaw = (source : List ℕ) (tokens : List Token) → AreTokens source tokens → ArePlaced source tokens

@@ -1,5 +1,5 @@
 // What the definitions promise by themselves: laws, which no code calls.
-ghost use Rattle.mast_tree.specs.Laws.{TokenLaw, TreeLaw};
+ghost use Rattle.mast_tree.specs.Laws.{SpanLaw, TokenLaw, TreeLaw};
 
 /// Tokens have a tree or a first breach of the grammar, not both, and only one.
 pub fn tree_law()
@@ -9,4 +9,9 @@ pub fn tree_law()
 /// A source has tokens or a first lexical breach.
 pub fn token_law()
     ensures { TokenLaw }
+{}
+
+/// Tokens are slices of the source, in order, and the line of each is 1 and the line feeds before it.
+pub fn span_law()
+    ensures { SpanLaw }
 {}

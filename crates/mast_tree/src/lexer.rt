@@ -14,7 +14,7 @@ use mast_terms::{List, Stop};
 use std::alloc::Global;
 
 /// What stands at the front of bytes.
-#[derive(Clone, Copy, Debug, PartialEq, Eq)]
+#[derive(Clone, Copy)]
 enum Front {
     /// A token, and how many bytes it takes.
     Token(TokenKind, usize),

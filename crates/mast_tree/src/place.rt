@@ -9,7 +9,7 @@ use crate::TokenKind;
 pub const MOST_OPEN: usize = 64;
 
 /// What was read last, where it has a part in what may come next.
-#[derive(Clone, Copy, Debug, PartialEq, Eq)]
+#[derive(Clone, Copy)]
 pub enum Place {
     Item,
     AfterName,
@@ -19,7 +19,7 @@ pub enum Place {
 }
 
 /// Where a token leads: one parenthesis too many, nowhere, or a place with so many parentheses open.
-#[derive(Clone, Copy, Debug, PartialEq, Eq)]
+#[derive(Clone, Copy)]
 pub enum Move {
     Deeper,
     Stuck,

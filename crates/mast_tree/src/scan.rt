@@ -6,7 +6,7 @@ ghost use Rattle.mast_tree.specs.Tokens as tokens;
 ghost use Rattle.mast_tree.specs.Tokens.{feeds};
 
 /// What a scan that began behind a `<` or a quote finds.
-#[derive(Clone, Copy, Debug, PartialEq, Eq)]
+#[derive(Clone, Copy)]
 pub enum Scanned {
     /// How many bytes, up to and with the end.
     Whole(usize),

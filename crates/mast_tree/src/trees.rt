@@ -13,14 +13,14 @@ use std::alloc::Global;
 use std::mem;
 
 /// A node whose parenthesis is open: the items before it, and its name's token.
-#[derive(Debug, Drop)]
+#[derive(Drop)]
 pub struct Frame {
     items: Items<Item>,
     token: u32,
 }
 
 /// The open nodes, the outermost first; the items inside the innermost; and the first token of an item that is begun.
-#[derive(Debug, Drop)]
+#[derive(Drop)]
 pub struct Trees {
     frames: Items<Frame>,
     items: Items<Item>,
