@@ -1,9 +1,9 @@
 -- The numbers of values: one for equal values, and for no others.
-use Rattle.std.proofs.Common.{◌≡◌, ◌↔◌, ℕ, zero, suc, ◌+◌, ◌-◌, ◌<◌, Bool, true, false, List, [], ◌∷◌, ◌++◌, length, get_or, refl, sym, ap, subst, ◌∙◌, arith, if◌then◌else◌}
-use Rattle.std.specs.Prelude.{Option, Some, None, option_and_then, Contains}
+use Rattle.std.proofs.Common.{◌⊎◌, inl, inr, ◌≡◌, ◌↔◌, ℕ, zero, suc, ◌+◌, ◌-◌, ◌<◌, Bool, true, false, List, [], ◌∷◌, ◌++◌, length, get_or, refl, sym, ap, subst, ◌∙◌, arith, if◌then◌else◌}
+use Rattle.std.specs.Prelude.{Option, Some, None, option_and_then, is_some, Contains, IsSome}
 use Rattle.std.specs.List.{fold, list_any, IsDistinct}
-use Rattle.std.proofs.lemmas.List.{get_or_append_left, get_or-append-add}
-use Rattle.std.proofs.lemmas.List.Elements.{Contains-append_left}
+use Rattle.std.proofs.lemmas.List.{get_or_append_left, get_or-append-add, get_or_default}
+use Rattle.std.proofs.lemmas.List.Elements.{Contains-append_left, Contains-push_cases}
 use Rattle.std.proofs.lemmas.List.Quantifiers.{position-Some}
 use Rattle.std.proofs.lemmas.Map.Keys.{IsDistinct-push}
 use Rattle.std.proofs.lemmas.Option.{slice_get-get_or}
@@ -13,7 +13,7 @@ use Rattle.mast_terms.specs.declared.value.Value.{Value}
 use Rattle.mast_terms.specs.contracts.value.ValueEq.TheImpl.Laws as laws
 use Rattle.mast_terms.proofs.SameLemmas.{value_same}
 use Rattle.mast_tables.specs.Cells.{same, present, different, number_among}
-use Rattle.mast_tables.specs.Rows.{Row, cells_of, cell_at, number_at, IsPlace}
+use Rattle.mast_tables.specs.Rows.{Row, cells_of, cell_at, number_at, number_of, IsPlace}
 use Rattle.mast_tables.proofs.CellsLemmas.{position_is}
 
 inserted_distinct : (ks : List Value) (v : Value) → IsDistinct same ks → IsDistinct same (insert_key same ks v)
@@ -101,3 +101,49 @@ pub no_number : (rows : List Row) (row column : ℕ) → IsPlace rows row column
 no_number rows row column p =
     let a = at_place rows row column p in
     (λ h. missing_number (cells_of rows) a.0 (cell_at rows row column) a.1 h, λ e. ap (λ (x : Option Value). option_and_then (number_among (cells_of rows)) x) e)
+
+-- a value that has a number is that of a cell
+from_inserted : (ks : List Value) (v x : Value) → Contains (insert_key same ks v) x → Contains ks x ⊎ (v ≡ x)
+from_inserted ks v x = by (list_any (same v) ks)
+  where
+    by : (b : Bool) → Contains (if b then ks else ks ++ v ∷ []) x → Contains ks x ⊎ (v ≡ x)
+    by true h = inl h
+    by false h = Contains-push_cases ks v x h
+
+later : {X : Type 0} (x y : X) (xs : List X) → Contains xs y → Contains (x ∷ xs) y
+later x y xs h = let lt : h.0 < length xs = h.1 in (suc h.0, omega arith, h.2)
+
+from_all : (xs ks : List Value) (x : Value) → Contains (fold (insert_key same) ks xs) x → Contains ks x ⊎ Contains xs x
+from_all [] ks x h = inl h
+from_all (v ∷ xs) ks x h = by (from_all xs (insert_key same ks v) x h)
+  where
+    first : Contains ks x ⊎ (v ≡ x) → Contains ks x ⊎ Contains (v ∷ xs) x
+    first (inl a) = inl a
+    first (inr e) = inr (0, omega arith, e)
+
+    by : Contains (insert_key same ks v) x ⊎ Contains xs x → Contains ks x ⊎ Contains (v ∷ xs) x
+    by (inl a) = first (from_inserted ks v x a)
+    by (inr b) = inr (later v x xs b)
+
+is_cell : (cells : List (Option Value)) (x : Value) (k : ℕ) → k < length (present cells) → get_or (present cells) k x ≡ x → Contains cells (Some x)
+is_cell [] x k lt e = absurd (omega arith)
+is_cell (None ∷ cells) x k lt e = later None (Some x) cells (is_cell cells x k lt e)
+is_cell (Some u ∷ cells) x zero lt e = (0, omega arith, ap (λ (y : Value). Some y) e)
+is_cell (Some u ∷ cells) x (suc k) lt e = later (Some u) (Some x) cells (is_cell cells x k (omega arith) e)
+
+of_a_cell : (cells : List (Option Value)) (v : Value) (o : Option ℕ) → number_among cells v ≡ o → is_some o ≡ true → Contains cells (Some v)
+of_a_cell cells v None e h = absurd (cc)
+of_a_cell cells v (Some i) e h = by (from_all (present cells) [] v here)
+  where
+    here : Contains (different cells) v
+    here = (i, (position-Some (same v) (different cells) i v e).0, sym (numbered_back cells v i e))
+
+    by : Contains [] v ⊎ Contains (present cells) v → Contains cells (Some v)
+    by (inl a) = let lt : a.0 < 0 = a.1 in absurd (omega arith)
+    by (inr b) = is_cell cells v b.0 b.1 b.2
+
+pub found_number : (rows : List Row) (v : Value) → IsSome (number_of rows v) ↔ Contains (cells_of rows) (Some v)
+found_number rows v = (
+  λ h. of_a_cell (cells_of rows) v (number_among (cells_of rows) v) refl h,
+  λ c. let n = numbered (cells_of rows) c.0 v (get_or_default (cells_of rows) c.0 None (Some v) c.1 ∙ c.2) in ap is_some n.1,
+)

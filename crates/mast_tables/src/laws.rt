@@ -1,10 +1,11 @@
 // Laws of the definitions that the contracts cite. No code calls them.
-ghost use Rattle.std.specs.Prelude.{ℕ, ◌≡◌, ◌↔◌, None, List};
+ghost use Rattle.std.specs.Prelude.{ℕ, ◌≡◌, ◌↔◌, None, Some, List, IsSome, Contains};
 ghost use Rattle.csv.specs.Reading.{AreRecords, default_config, strip_bom};
 ghost use Rattle.csv.specs.declared.parser.State.TheVariants as st;
 ghost use Rattle.mast_tables.specs.Breach.{HasBreach, HasRows};
 ghost use Rattle.mast_tables.specs.Records.{Record, records_of};
-ghost use Rattle.mast_tables.specs.Rows.{IsPlace, Row, cell_at, number_at};
+ghost use Rattle.mast_tables.specs.Rows.{IsPlace, Row, cell_at, cells_of, number_at, number_of};
+ghost use Rattle.mast_terms.specs.declared.value.Value.{Value};
 ghost use Rattle.mast_tables.specs.declared.declaration.Column.{Column};
 ghost use Rattle.mast_tables.specs.declared.declaration.RowBreach.{RowBreach};
 
@@ -18,8 +19,10 @@ pub fn rows_leave_no_breach()
     ensures { (columns : List Column) (most : ℕ) (records : List Record) (rows : List Row) (breach : RowBreach) → HasRows columns most records rows → HasBreach columns most records breach → ⊥ }
 {}
 
-/// Two cells of a table have one number exactly where their values are equal, and a cell has none exactly where it is missing.
+/// Two cells of a table have one number exactly where their values are equal, a cell has none exactly where it is missing,
+/// and a value has one exactly where it is that of a cell.
 pub fn numbers_tell_values()
     ensures same { (rows : List Row) (row column other next : ℕ) → IsPlace rows row column → IsPlace rows other next → (number_at rows row column ≡ number_at rows other next) ↔ (cell_at rows row column ≡ cell_at rows other next) }
     ensures missing { (rows : List Row) (row column : ℕ) → IsPlace rows row column → (number_at rows row column ≡ None) ↔ (cell_at rows row column ≡ None) }
+    ensures found { (rows : List Row) (value : Value) → IsSome (number_of rows value) ↔ Contains (cells_of rows) (Some value) }
 {}

@@ -1,6 +1,6 @@
 //! Typed tables: the rows of a table file, each cell read by the kind of its column, and the first breach of such a file.
 //! The crates above rest on `load`: it gives exactly the rows of a file without a breach, or else the file's first breach.
-//! The words are defined in specs/: Records (of a file), Typed (cells), Breach (of a file), Cells (a table's, by number).
+//! The words are defined in specs/Breach.antt, a file's rows and its first breach, and in Records, Typed and Rows beside it.
 //! It must not know of files and sinks, of mappings and queries, or of how a refusal is printed.
 #![tactic(auto)]
 

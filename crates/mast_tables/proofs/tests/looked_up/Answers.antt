@@ -1,4 +1,4 @@
-use Rattle.std.proofs.Common.{◌≤◌, length, ap, arith}
+use Rattle.std.proofs.Common.{length, ap, arith}
 use Rattle.mast_tables.specs.Records.{records_of}
 use Rattle.mast_tables.proofs.RecordsLemmas.{is_place}
 use Rattle.mast_tables.proofs.tests.looked_up.Goals as goal
