@@ -1,7 +1,7 @@
 //! What no clause says: outside values, and that calls succeed where memory is there.
 use crate::{
-    AddRefusal, Args, BadDate, BadInt, Date, NameKind, NoMemory, Object, Stop, Term, Text, Value,
-    Vocabulary, read_date, read_int, write_term,
+    Args, BadDate, BadInt, Date, NameKind, NoMemory, Object, Stop, Term, Text, Value, Vocabulary,
+    read_date, read_int, write_term,
 };
 use std::alloc::Global;
 use std::test::Fail;
