@@ -1,2 +1,5 @@
 mod ColumnsLemmas
+mod FormLemmas
+mod MappingLemmas
+mod QueryLemmas
 mod TokensLemmas
