@@ -1,7 +1,9 @@
 pub mod Causes
 pub mod Codes
 pub mod Columns
+pub mod Facts
 pub mod Headline
+pub mod LinesText
 pub mod MappingForm
 pub mod Mappings
 pub mod Queries

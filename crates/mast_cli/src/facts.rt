@@ -1,8 +1,10 @@
 // The facts of a table's rows, and their text.
-ghost use Rattle.std.specs.Prelude.{◌≡◌, ◌≤◌, vec_len, length, OnOk};
-ghost use Rattle.std.specs.List.{AllByRecursion};
+ghost use Rattle.std.specs.Prelude.{◌≡◌, ◌≤◌, ◌-◌, ◌++◌, [], vec_len, length, map, get_or, IfOk, OnOk};
+ghost use Rattle.std.specs.List.{AllByRecursion, concat};
 ghost use Rattle.mast_tables.specs.Rows.{IsPlace};
 ghost use Rattle.mast_cli.specs.Columns.{AreColumns, AreWide};
+ghost use Rattle.mast_cli.specs.Facts.{IsFactLine, all_values, cells_in, fact_line, fact_of, row_lines, rows_lines};
+ghost use Rattle.mast_cli.specs.LinesText.{IsSetOf, IsTextOf, lines_text, pieces};
 ghost use Rattle.mast_cli.specs.Mappings.{FitsTable};
 
 use crate::mapping::Mapping;
@@ -16,12 +18,12 @@ use std::alloc::Global;
 pub fn facts_text(alloc: Global, mapping: &Mapping, table: &Table) -> Result<Vec<u8>, NoMemory>
     requires fits { FitsTable mapping.now }
     requires wide { AreWide (length mapping.now.table.columns) table.now }
+    ensures { IfOk result (λ text. IsTextOf (IsFactLine mapping.now table.now) text.items) }
 {
     let mut bytes = Vec::new(alloc);
     let lengths = push_facts(alloc, mapping, table, &mut bytes)?;
     let mut lines = cut_lines(alloc, &bytes, &lengths)?;
-    lines.sort_unstable();
-    lines.dedup();
+    sort_once(&mut lines);
     join_lines(alloc, &lines, bytes.len())
 }
 
@@ -34,27 +36,53 @@ fn push_facts(
 ) -> Result<Vec<usize>, NoMemory>
     requires fits { FitsTable mapping.now }
     requires wide { AreWide (length mapping.now.table.columns) table.now }
+    ensures bytes { OnOk result (bytes.new.items ≡ bytes.old.items ++ concat (rows_lines mapping.now table.now)) }
+    ensures lengths { IfOk result (λ lengths. lengths.items ≡ map length (rows_lines mapping.now table.now)) }
 {
     let mut lengths = Vec::new(alloc);
-    for row in 1..=table.rows() {
-        if let Some(args) = row_args(alloc, table, row, &mapping.slots)? {
-            let before = bytes.len();
-            push_fact(alloc, mapping, args, bytes)?;
-            lengths.push(bytes.len() - before)?;
-        }
+    for row in 0..table.rows() {
+        push_row(alloc, mapping, table, row + 1, bytes, &mut lengths)?;
     }
     Ok(lengths)
 }
 
-// Appends the line of the fact of these arguments: `<CLASS>(SYMBOL(ARGUMENTS))`.
+// Appends the line of a row's fact and its length, or nothing where the row gives no fact.
+fn push_row(
+    alloc: Global,
+    mapping: &Mapping,
+    table: &Table,
+    row: u32,
+    bytes: &mut Vec<u8>,
+    lengths: &mut Vec<usize>,
+) -> Result<(), NoMemory>
+    requires fits { FitsTable mapping.now }
+    requires wide { AreWide (length mapping.now.table.columns) table.now }
+    requires from { 1 ≤ row }
+    requires to { row ≤ length table.now }
+    ensures bytes { OnOk result (bytes.new.items ≡ bytes.old.items ++ concat (row_lines mapping.now (get_or table.now (row - 1) []))) }
+    ensures lengths { OnOk result (lengths.new.items ≡ lengths.old.items ++ map length (row_lines mapping.now (get_or table.now (row - 1) []))) }
+{
+    match row_args(alloc, table, row, &mapping.slots)? {
+        Some(args) => {
+            let length = push_fact(alloc, mapping, args, bytes)?;
+            lengths.push(length)?;
+            Ok(())
+        }
+        None => Ok(()),
+    }
+}
+
+// Appends the line of the fact of these arguments, `<CLASS>(SYMBOL(ARGUMENTS))`, and gives its length.
 fn push_fact(
     alloc: Global,
     mapping: &Mapping,
     args: Args,
     bytes: &mut Vec<u8>,
-) -> Result<(), NoMemory>
-    ensures { OnOk result (vec_len bytes.old ≤ vec_len bytes.new) }
+) -> Result<usize, NoMemory>
+    ensures bytes { OnOk result (bytes.new.items ≡ bytes.old.items ++ fact_line (fact_of mapping.now args)) }
+    ensures length { IfOk result (λ n. n ≡ length (fact_line (fact_of mapping.now args))) }
 {
+    let before = bytes.len();
     bytes.push(b'<')?;
     bytes.extend_from_slice(mapping.class.as_str().as_bytes())?;
     bytes.extend_from_slice(b">(")?;
@@ -64,7 +92,7 @@ fn push_fact(
     });
     write_term(alloc, &object, bytes)?;
     bytes.push(b')')?;
-    Ok(())
+    Ok(bytes.len() - before)
 }
 
 // The cells of a row in these columns, or None where one is missing.
@@ -75,6 +103,7 @@ fn row_args(
     columns: &[u32],
 ) -> Result<Option<Args>, NoMemory>
     requires { AllByRecursion (λ column. IsPlace table.now row column) columns.now }
+    ensures { IfOk result (λ args. args ≡ all_values (cells_in columns.now (get_or table.now (row - 1) []))) }
 {
     let mut args = Args::new(alloc);
     for column in columns {
@@ -91,7 +120,9 @@ fn cut_lines<'a>(
     alloc: Global,
     bytes: &'a [u8],
     lengths: &[usize],
-) -> Result<Vec<&'a [u8]>, NoMemory> {
+) -> Result<Vec<&'a [u8]>, NoMemory>
+    ensures { IfOk result (λ lines. map (λ line. line.now) lines.items ≡ pieces lengths.now bytes.now) }
+{
     let mut lines = Vec::with_capacity(alloc, lengths.len())?;
     let mut rest = bytes;
     for length in lengths {
@@ -102,8 +133,18 @@ fn cut_lines<'a>(
     Ok(lines)
 }
 
+// Sorts the lines by their bytes, and keeps each once.
+fn sort_once(lines: &mut Vec<&[u8]>)
+    ensures { IsSetOf (map (λ line. line.now) lines.old.items) (map (λ line. line.now) lines.new.items) }
+{
+    lines.sort_unstable();
+    lines.dedup();
+}
+
 // The lines in order, each with its line feed. `most` is how many bytes they may have together.
-fn join_lines(alloc: Global, lines: &[&[u8]], most: usize) -> Result<Vec<u8>, NoMemory> {
+fn join_lines(alloc: Global, lines: &[&[u8]], most: usize) -> Result<Vec<u8>, NoMemory>
+    ensures { IfOk result (λ text. text.items ≡ lines_text (map (λ line. line.now) lines.now)) }
+{
     let mut text = Vec::with_capacity(alloc, most.saturating_add(lines.len()))?;
     for line in lines {
         text.extend_from_slice(line)?;
