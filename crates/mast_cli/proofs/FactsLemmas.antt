@@ -1,11 +1,11 @@
 -- The facts of rows, and their lines.
-use Rattle.std.proofs.Common.{◌≡◌, ◌≤◌, ◌<◌, ◌+◌, ◌-◌, ◌⊎◌, ℕ, zero, suc, List, [], ◌∷◌, Option, Some, None, map, length, get_or, option_map, Contains, subst, sym, ap, ◌∙◌, refl, inl, inr, arith}
+use Rattle.std.proofs.Common.{◌≡◌, ◌<◌, ◌-◌, ◌⊎◌, ℕ, zero, suc, List, [], ◌∷◌, Option, Some, None, map, length, get_or, option_map, Contains, subst, sym, ap, ◌∙◌, refl, inl, inr, arith}
 use Rattle.std.proofs.lemmas.List.Elements.{Contains-append_cases, Contains-append_left, Contains-append_right}
 use Rattle.std.specs.List.{concat}
 use Rattle.mast_terms.specs.declared.value.Value.{Value}
 use Rattle.mast_tables.specs.Rows.{Row}
 use Rattle.mast_cli.specs.declared.mapping.Mapping.{Mapping}
-use Rattle.mast_cli.specs.Facts.{Fact, cells_in, fact_of, Supports, IsFactWithin, AllRows, fact_line, IsLineOf, IsFactLine, all_values, lines_from, row_lines, rows_lines}
+use Rattle.mast_cli.specs.Facts.{Fact, cells_in, fact_of, Supports, fact_line, IsFactLine, all_values, lines_from, row_lines, rows_lines}
 use Rattle.mast_cli.specs.LinesText.{pieces, lines_text, IsTextOf, IsSetOf}
 use Rattle.mast_cli.proofs.LinesLemmas.{pieces_concat}
 

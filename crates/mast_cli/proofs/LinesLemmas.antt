@@ -1,5 +1,5 @@
 -- Lines cut from their bytes, sorted, and each kept once.
-use Rattle.std.proofs.Common.{◌≡◌, ℕ, Bool, true, false, cond, List, [], ◌∷◌, ◌++◌, map, length, take, drop, subst, sym, ap, ◌∙◌, refl, nat_cmp, nat_eq, is_lt, Less, Ordering, Contains, IsPermutation, IsSorted}
+use Rattle.std.proofs.Common.{◌≡◌, ℕ, Bool, true, false, cond, List, [], ◌∷◌, map, length, subst, sym, ap, ◌∙◌, refl, nat_cmp, nat_eq, Less, Ordering, Contains, IsPermutation, IsSorted}
 use Rattle.std.proofs.lemmas.List.Filters.{dedup_is}
 use Rattle.std.proofs.lemmas.List.Kept.{IsStrictlySortedBy-dedup, Contains-dedup, Contains-from_dedup}
 use Rattle.std.proofs.lemmas.List.Sorted.{Contains-permutation, IsPermutation-map, IsPermutation-sym}
@@ -9,7 +9,7 @@ use Rattle.std.specs.List.{concat, dedup, dedup_from, AllByRecursion}
 use Rattle.std.specs.List.Sorted.{IsStrictlySortedBy}
 use Rattle.std.specs.List.Retain.{IsFiltered, DiffersFromLast}
 use Rattle.std.specs.Cmp.Lexicographic.{slice_cmp, pointwise, bytes_decides, on_texts, texts_ties}
-use Rattle.mast_cli.specs.LinesText.{pieces, lines_text, IsSetOf}
+use Rattle.mast_cli.specs.LinesText.{pieces, IsSetOf}
 
 -- lines are the pieces of what they make together
 pub pieces_concat : (lines : List (List ℕ)) → pieces (map length lines) (concat lines) ≡ lines

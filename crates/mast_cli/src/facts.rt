@@ -1,8 +1,8 @@
 // The facts of a table's rows, and their text.
-ghost use Rattle.std.specs.Prelude.{◌≡◌, ◌≤◌, ◌-◌, ◌++◌, [], vec_len, length, map, get_or, IfOk, OnOk};
+ghost use Rattle.std.specs.Prelude.{◌≡◌, ◌≤◌, ◌-◌, ◌++◌, [], length, map, get_or, IfOk, OnOk};
 ghost use Rattle.std.specs.List.{AllByRecursion, concat};
 ghost use Rattle.mast_tables.specs.Rows.{IsPlace};
-ghost use Rattle.mast_cli.specs.Columns.{AreColumns, AreWide};
+ghost use Rattle.mast_cli.specs.Columns.{AreWide};
 ghost use Rattle.mast_cli.specs.Facts.{IsFactLine, all_values, cells_in, fact_line, fact_of, row_lines, rows_lines};
 ghost use Rattle.mast_cli.specs.LinesText.{IsSetOf, IsTextOf, lines_text, pieces};
 ghost use Rattle.mast_cli.specs.Mappings.{FitsTable};

@@ -1,5 +1,5 @@
 -- The lines of the rows as a set are the lines of the facts.
-use Rattle.std.proofs.Common.{◌≡◌, ◌++◌, ◌∙◌, List, ℕ, Bor, map, ap}
+use Rattle.std.proofs.Common.{◌++◌, ◌∙◌, List, ℕ, Bor, map, ap}
 use Rattle.std.specs.List.{concat}
 use Rattle.std.proofs.lemmas.Result.{IfOk-weaker}
 use Rattle.mast_cli.specs.Facts.{IsFactLine, rows_lines}
