@@ -1,5 +1,7 @@
 -- The facts of rows, and their lines.
-use Rattle.std.proofs.Common.{◌≡◌, ◌<◌, ◌-◌, ◌⊎◌, ℕ, zero, suc, List, [], ◌∷◌, Option, Some, None, map, length, get_or, option_map, Contains, subst, sym, ap, ◌∙◌, refl, inl, inr, arith}
+use Rattle.std.proofs.Common.{◌≡◌, ◌<◌, ◌+◌, ◌-◌, ◌++◌, ◌⊎◌, ℕ, zero, suc, List, [], ◌∷◌, Option, Some, None, map, length, drop, get_or, option_map, Contains, subst, sym, ap, ◌∙◌, refl, inl, inr, arith, append_assoc}
+use Rattle.std.proofs.lemmas.List.{drop_more, map-append}
+use Rattle.std.proofs.lemmas.List.Folds.{concat-append}
 use Rattle.std.proofs.lemmas.List.Elements.{Contains-append_cases, Contains-append_left, Contains-append_right}
 use Rattle.std.specs.List.{concat}
 use Rattle.mast_terms.specs.declared.value.Value.{Value}
@@ -101,3 +103,29 @@ facts_are m rows bytes lengths text cut new eb el ec s et =
       all = λ line h. s.all line (subst (λ (ls : List (List ℕ)). Contains ls line) (sym whole) (has_fact_line m rows line h));
       is = et;
     }
+
+-- the lines of the rows after the first i
+rows_at : (m : Mapping) (rows : List Row) (i : ℕ) → i < length rows → rows_lines m (drop i rows) ≡ row_lines m (get_or rows i []) ++ rows_lines m (drop (i + 1) rows)
+rows_at m rows i lt = ap (rows_lines m) (drop_more rows i [] lt)
+
+-- the bytes of the row after the first i come after the bytes of these
+pub bytes_more : (m : Mapping) (rows : List Row) (i k : ℕ) (old new whole : List ℕ) → i < length rows → k ≡ i → new ≡ old ++ concat (row_lines m (get_or rows k [])) → old ++ concat (rows_lines m (drop i rows)) ≡ whole → new ++ concat (rows_lines m (drop (i + 1) rows)) ≡ whole
+bytes_more m rows i k old new whole lt at e h =
+    let row = get_or rows i [] in
+    let rest = rows_lines m (drop (i + 1) rows) in
+    let new_is : new ≡ old ++ concat (row_lines m row) = e ∙ ap (λ (n : ℕ). old ++ concat (row_lines m (get_or rows n []))) at in
+    ap (λ (l : List ℕ). l ++ concat rest) new_is
+    ∙ append_assoc old (concat (row_lines m row)) (concat rest)
+    ∙ ap (λ (l : List ℕ). old ++ l) (sym (ap concat (rows_at m rows i lt) ∙ concat-append (row_lines m row) rest))
+    ∙ h
+
+-- and its lengths after their lengths
+pub lengths_more : (m : Mapping) (rows : List Row) (i k : ℕ) (old new whole : List ℕ) → i < length rows → k ≡ i → new ≡ old ++ map length (row_lines m (get_or rows k [])) → old ++ map length (rows_lines m (drop i rows)) ≡ whole → new ++ map length (rows_lines m (drop (i + 1) rows)) ≡ whole
+lengths_more m rows i k old new whole lt at e h =
+    let row = get_or rows i [] in
+    let rest = rows_lines m (drop (i + 1) rows) in
+    let new_is : new ≡ old ++ map length (row_lines m row) = e ∙ ap (λ (n : ℕ). old ++ map length (row_lines m (get_or rows n []))) at in
+    ap (λ (l : List ℕ). l ++ map length rest) new_is
+    ∙ append_assoc old (map length (row_lines m row)) (map length rest)
+    ∙ ap (λ (l : List ℕ). old ++ l) (sym (ap (map length) (rows_at m rows i lt) ∙ map-append length (row_lines m row) rest))
+    ∙ h

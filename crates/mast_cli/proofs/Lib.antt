@@ -4,4 +4,6 @@ mod FormLemmas
 mod LinesLemmas
 mod MappingLemmas
 mod QueryLemmas
+mod TellingLemmas
 mod TokensLemmas
+mod WordsLemmas

@@ -1,9 +1,15 @@
 pub mod Causes
 pub mod Codes
 pub mod Columns
+pub mod Endings
 pub mod Facts
 pub mod Headline
+pub mod Lines
 pub mod LinesText
 pub mod MappingForm
 pub mod Mappings
+pub mod Outcome
 pub mod Queries
+pub mod Telling
+pub mod Told
+pub mod Words

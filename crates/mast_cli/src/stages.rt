@@ -1,7 +1,11 @@
 // The stages of a run, in order, up to the text that is to be written.
-ghost use Rattle.std.specs.Prelude.{◌≡◌, ◌<◌, length, IfOk};
+ghost use Rattle.std.specs.Prelude.{◌≡◌, ◌<◌, ◌≤◌, length, map, string_bytes, IfOk, IfSome};
 ghost use Rattle.mast_cli.specs.Columns.{AreWide};
 ghost use Rattle.mast_cli.specs.Mappings.{FitsTable};
+ghost use Rattle.mast_cli.specs.Outcome.{Declares, DocumentEvent, HasMapping, MappingsEvent, RecordsEvent, HasTable, TableEvent, most_rows};
+ghost use Rattle.mast_cli.specs.Telling.{TellsBytes, TellsFile, TellsFacts, TellsRun};
+ghost use Rattle.mast_tables.specs.Breach.{HasRows};
+ghost use Rattle.mast_tables.specs.Records.{records_of};
 ghost use Rattle.mast_cli.specs.Causes.{IfRead, JudgedHasCause, StageHasCause, StageIsEvent};
 
 use crate::events::{
@@ -28,6 +32,7 @@ const ROWS: u32 = 2_000_000;
 
 /// The status and the text of a run, but for faults of the sink.
 pub fn judge<F: Files>(alloc: Global, words: &[String], files: &mut F) -> Result<Judged, NoMemory>
+    ensures told { IfOk result (λ judged. IfSome (F.contents files.old) (λ contents. TellsRun (map string_bytes words.now) contents (F.reading files.new) judged)) }
     ensures kept { F.contents files.new ≡ F.contents files.old }
     ensures cause { IfOk result (λ judged. JudgedHasCause (F.faults files.old) (F.faults files.new) (F.reading files.new) judged) }
 {
@@ -40,6 +45,7 @@ pub fn judge<F: Files>(alloc: Global, words: &[String], files: &mut F) -> Result
 
 // `facts`: the mappings, the table, the text.
 fn judge_facts<F: Files>(alloc: Global, name: &str, files: &mut F) -> Result<Judged, NoMemory>
+    ensures told { IfOk result (λ judged. IfSome (F.contents files.old) (λ contents. TellsFacts contents name.now (F.reading files.new) judged)) }
     ensures kept { F.contents files.new ≡ F.contents files.old }
     ensures cause { IfOk result (λ judged. JudgedHasCause (F.faults files.old) (F.faults files.new) (F.reading files.new) judged) }
 {
@@ -63,6 +69,7 @@ fn judge_mappings<F: Files>(
     name: &str,
     files: &mut F,
 ) -> Result<Stage<Mapping>, NoMemory>
+    ensures told { IfOk result (λ stage. IfSome (F.contents files.old) (λ contents. TellsFile (HasMapping (contents name.now)) (MappingsEvent (contents name.now)) name.now (F.reading files.new) stage)) }
     ensures fits { IfOk result (IfRead FitsTable) }
     ensures kept { F.contents files.new ≡ F.contents files.old }
     ensures cause { IfOk result (λ stage. StageHasCause (F.faults files.old) (F.faults files.new) (F.reading files.new) stage) }
@@ -80,6 +87,7 @@ fn judge_mappings<F: Files>(
 // The mapping document's bytes: tokens, tree, form.
 fn judge_document(alloc: Global, bytes: &[u8]) -> Result<Stage<Mapping>, NoMemory>
     requires { length bytes.now < 4294967295 }
+    ensures told { IfOk result (TellsBytes (Declares bytes.now) (DocumentEvent bytes.now)) }
     ensures event { IfOk result StageIsEvent }
     ensures fits { IfOk result (IfRead FitsTable) }
 {
@@ -111,6 +119,7 @@ fn judge_table<F: Files>(
     files: &mut F,
 ) -> Result<Stage<Table>, NoMemory>
     requires { length decl.now.columns < 4294967295 }
+    ensures told { IfOk result (λ stage. IfSome (F.contents files.old) (λ contents. TellsFile (HasTable decl.now (contents decl.now.file)) (TableEvent decl.now (contents decl.now.file)) decl.now.file (F.reading files.new) stage)) }
     ensures wide { IfOk result (IfRead (AreWide (length decl.now.columns))) }
     ensures kept { F.contents files.new ≡ F.contents files.old }
     ensures cause { IfOk result (λ stage. StageHasCause (F.faults files.old) (F.faults files.new) (F.reading files.new) stage) }
@@ -131,6 +140,7 @@ fn judge_table<F: Files>(
 fn judge_records(alloc: Global, decl: &TableDecl, bytes: &[u8]) -> Result<Stage<Table>, NoMemory>
     requires bytes { length bytes.now < 4294967295 }
     requires columns { length decl.now.columns < 4294967295 }
+    ensures told { IfOk result (TellsBytes (HasRows decl.now.columns most_rows (records_of bytes.now)) (RecordsEvent decl.now bytes.now)) }
     ensures event { IfOk result StageIsEvent }
     ensures wide { IfOk result (IfRead (AreWide (length decl.now.columns))) }
 {

@@ -1,7 +1,9 @@
 // The top call.
-ghost use Rattle.std.specs.Prelude.{◌≡◌, ◌<◌};
+ghost use Rattle.std.specs.Prelude.{◌≡◌, ◌<◌, map, string_bytes, IfSome};
 ghost use Rattle.mast_files.specs.Causes.{Rose};
-ghost use Rattle.mast_cli.specs.Headline.{IsAnswer, IsNoAnswer, GivesFaultLine};
+ghost use Rattle.mast_cli.specs.Headline.{IsAnswer, IsNoAnswer, FailedFile, GivesFaultLine};
+ghost use Rattle.mast_cli.specs.Outcome.{Judges};
+ghost use Rattle.mast_cli.specs.Told.{WritesOutcome, WritesPart};
 
 use crate::stages::judge;
 use crate::status::Status;
@@ -21,15 +23,25 @@ pub fn run<Rt: Threads + Sync, F: Files, S: Sink>(
     files: &mut F,
     sink: &mut S,
 ) -> Status
-    // An answer comes only where no fault came.
+    // An answer is that of the definitions, and the sink was given exactly its text. No fault came.
+    ensures outcome { IsAnswer result → IfSome (F.contents files.old)
+        (λ contents. WritesOutcome (map string_bytes words.now) contents result (S.written sink.old) (S.written sink.new)) }
     ensures quiet { IsAnswer result → (F.faults files.new ≡ F.faults files.old) × (S.faults sink.new ≡ S.faults sink.old) }
 
     // A read fault comes only where the count of the files' faults rose; the sink was given exactly its line.
     ensures read_fault { result ≡ Status.ReadFault → Rose (F.faults files.old) (F.faults files.new) }
     ensures read_fault_line { result ≡ Status.ReadFault → GivesFaultLine (F.reading files.new) (S.written sink.old) (S.written sink.new) }
 
+    // Its file is one that the run judges, and no event stands at an earlier place.
+    ensures read_fault_place { result ≡ Status.ReadFault → IfSome (F.contents files.old)
+        (λ contents. FailedFile (F.reading files.new) (Judges (map string_bytes words.now) contents)) }
+
     // A write fault comes only where the count of the sink's faults rose.
     ensures write_fault { result ≡ Status.WriteFault → Rose (S.faults sink.old) (S.faults sink.new) }
+
+    // What went out is a front of the text that was to be written.
+    ensures write_fault_text { result ≡ Status.WriteFault → IfSome (F.contents files.old)
+        (λ contents. WritesPart (map string_bytes words.now) contents (F.reading files.new) (F.faults files.old) (F.faults files.new) (S.written sink.old) (S.written sink.new)) }
 
     // Without memory nothing is written.
     ensures no_memory { result ≡ Status.NoMemory → S.written sink.new ≡ S.written sink.old }

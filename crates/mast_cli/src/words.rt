@@ -1,4 +1,8 @@
 // The words after the program's name.
+ghost use Rattle.std.specs.Prelude.{◌≡◌, None, Some, map, string_bytes, if◌then◌else◌};
+ghost use Rattle.std.specs.Option.{option_map, option_copied};
+ghost use Rattle.mast_cli.specs.Words.{TellsFacts, TellsWords, files_of, is_option, only_of};
+
 use mast_terms::{NoMemory, Stop, Text};
 use std::alloc::Global;
 
@@ -16,7 +20,9 @@ pub struct Usage;
 /// The task of the words. The first word is the command.
 ///
 /// Usage comes exactly where the words are no task. A command that is not there yet is no task.
-pub fn read_words(alloc: Global, words: &[String]) -> Result<Task, Stop<Usage>> {
+pub fn read_words(alloc: Global, words: &[String]) -> Result<Task, Stop<Usage>>
+    ensures { TellsWords (map string_bytes words.now) result }
+{
     match words {
         [] => Err(Stop::Named(Usage)),
         [command, words @ ..] => {
@@ -30,7 +36,9 @@ pub fn read_words(alloc: Global, words: &[String]) -> Result<Task, Stop<Usage>> 
 }
 
 // `facts` has one file and no option.
-fn read_facts(alloc: Global, words: &[String]) -> Result<Task, Stop<Usage>> {
+fn read_facts(alloc: Global, words: &[String]) -> Result<Task, Stop<Usage>>
+    ensures { TellsFacts (map string_bytes words.now) result }
+{
     match only_file(words) {
         Some(name) => Ok(Task::Facts {
             mappings: Text::from_str(alloc, name)?,
@@ -39,12 +47,19 @@ fn read_facts(alloc: Global, words: &[String]) -> Result<Task, Stop<Usage>> {
     }
 }
 
-// The one file of the words after a command that takes no option: the first `--` is dropped, and before it
-// a word that begins with `-` and is longer is no file.
-fn only_file(words: &[String]) -> Option<&str> {
+// The one file of the words after a command that takes no option.
+fn only_file(words: &[String]) -> Option<&str>
+    ensures { option_copied result ≡ only_of (files_of (map string_bytes words.now)) }
+{
     match words {
         [] => None,
-        [only] => plain_file(only.as_str()),
+        [only] => {
+            if only.as_str() == "--" {
+                None
+            } else {
+                plain_file(only.as_str())
+            }
+        }
         [first, second] => {
             if first.as_str() == "--" {
                 Some(second.as_str())
@@ -59,9 +74,11 @@ fn only_file(words: &[String]) -> Option<&str> {
 }
 
 // A word before `--` that is a file's name.
-fn plain_file(word: &str) -> Option<&str> {
+fn plain_file(word: &str) -> Option<&str>
+    ensures { option_copied result ≡ (if is_option word.now then None else Some word.now) }
+{
     match word.as_bytes() {
-        [b'-', _, ..] => None,
-        _ => Some(word),
+        [] | [_] => Some(word),
+        [first, _, ..] => { if *first == b'-' { None } else { Some(word) } }
     }
 }
