@@ -1,8 +1,8 @@
 ghost use Rattle.std.specs.Prelude.{◌<◌};
 
 use crate::status::Status;
-use crate::top::run;
-use mast_files::{MemFiles, MemSink};
+use crate::top::{run, run_sound};
+use mast_files::{MemFiles, MemSink, SoundFiles, SoundSink};
 use mast_terms::{List, Text};
 use std::alloc::Global;
 use std::test::Fail;
@@ -84,5 +84,19 @@ fn a_fault_of_each_put_leaves_a_front(rt: HostRuntime) -> Result<(), Fail> {
             assert_eq!(rt; sink.written(), TEXT.as_bytes());
         }
     }
+    Ok(())
+}
+
+#[test]
+fn a_run_that_nothing_disturbs_is_done(rt: HostRuntime) -> Result<(), Fail> {
+    let alloc = rt.alloc();
+    let mut list = Vec::new(alloc);
+    list.push(entry(alloc, "m.ofn", MAPPINGS)?)?;
+    list.push(entry(alloc, "t.csv", "id\n2\n1\n")?)?;
+    let mut files = SoundFiles::new(list);
+    let mut sink = SoundSink::new(alloc, 1000)?;
+    let status = run_sound(&rt, alloc, &words(alloc)?, &mut files, &mut sink);
+    assert_eq!(rt; status, Status::Done);
+    assert_eq!(rt; sink.written(), Some(TEXT.as_bytes()));
     Ok(())
 }

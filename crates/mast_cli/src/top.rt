@@ -1,5 +1,5 @@
 // The top call.
-ghost use Rattle.std.specs.Prelude.{◌≡◌, ◌<◌, map, string_bytes, IfSome};
+ghost use Rattle.std.specs.Prelude.{◌≡◌, ◌⊎◌, ◌<◌, map, string_bytes, IfSome};
 ghost use Rattle.mast_files.specs.Causes.{Rose};
 ghost use Rattle.mast_cli.specs.Headline.{IsAnswer, IsNoAnswer, FailedFile, GivesFaultLine};
 ghost use Rattle.mast_cli.specs.Outcome.{Judges};
@@ -7,7 +7,7 @@ ghost use Rattle.mast_cli.specs.Told.{WritesOutcome, WritesPart};
 
 use crate::stages::judge;
 use crate::status::Status;
-use mast_files::{Files, Sink, write_all_of};
+use mast_files::{Files, Sink, SoundFiles, SoundSink, write_all_of};
 use mast_terms::NoMemory;
 use std::alloc::Global;
 use std::thread::Threads;
@@ -57,4 +57,17 @@ pub fn run<Rt: Threads + Sync, F: Files, S: Sink>(
         },
         Err(NoMemory) => Status::NoMemory,
     }
+}
+
+/// Over objects in memory that never fail, each run that has memory answers: no fault can come.
+pub fn run_sound<Rt: Threads + Sync>(
+    rt: &Rt,
+    alloc: Global,
+    words: &[String],
+    files: &mut SoundFiles,
+    sink: &mut SoundSink,
+) -> Status
+    ensures complete { (result ≡ Status.NoMemory) ⊎ IsAnswer result }
+{
+    run(rt, alloc, words, files, sink)
 }
