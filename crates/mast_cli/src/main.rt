@@ -1,6 +1,6 @@
 // Mastro: facts, checks and answers over an ontology, mappings and tables.
 // The contract that the program rests on: `run` answers what its words and its files' contents call for.
-// `specs/` will define the outcome of a run; so far the calls of this crate are safe and return.
+// Its words are defined in specs/Outcome.antt, and in Facts, Lines, LinesText, Mappings and Words beside it.
 // It is the only crate that knows words, printed lines and statuses. No other crate prints a refusal.
 #![tactic(auto)]
 
