@@ -13,6 +13,7 @@ use Rattle.mast_tables.specs.declared.declaration.TableDecl.{TableDecl}
 use Rattle.mast_cli.specs.declared.mapping.Mapping.{Mapping}
 use Rattle.mast_cli.specs.declared.mapping.Unbuilt.{Unbuilt}
 use Rattle.mast_cli.specs.MappingForm.{Said, said, node_of, identifier_of, string_of, table_in, query_of, slots_after, object_of, object_in, class_of, head_of, head_in, map_of, map_in, pair_of, pair_in, main_of, after_front, form_of}
+use Rattle.mast_cli.specs.Columns.{names_of}
 use Rattle.mast_cli.specs.Mappings.{IsForm}
 use Rattle.mast_cli.proofs.QueryLemmas.{parts, query_read, query_is_read}
 
@@ -97,7 +98,7 @@ record Headed (source : List ℕ) (tokens : List Token) (items : List Item) : Ty
 abbrev found : TableDecl → List ℕ → List ℕ → List ℕ → Option Said
 found table class symbol slots = Some (record { table = table; class = class; symbol = symbol; slots = slots })
 
-built : (source : List ℕ) (tokens : List Token) (items : List Item) (y : Said) (h : Headed source tokens items) (symbol slots : List ℕ) → identifier_of source tokens h.symbol ≡ Some symbol → slots_after source tokens h.before.before.decl.columns h.before.selected [] h.slots ≡ Some slots → found h.before.before.decl h.iri symbol slots ≡ Some y → IsForm source tokens items y
+built : (source : List ℕ) (tokens : List Token) (items : List Item) (y : Said) (h : Headed source tokens items) (symbol slots : List ℕ) → identifier_of source tokens h.symbol ≡ Some symbol → slots_after source tokens (names_of h.before.before.decl.columns) h.before.selected [] h.slots ≡ Some slots → found h.before.before.decl h.iri symbol slots ≡ Some y → IsForm source tokens items y
 built source tokens items y h symbol slots e f g =
     same_said source tokens items (record { table = h.before.before.decl; class = h.iri; symbol = symbol; slots = slots }) y g (record {
       namespaces = h.before.before.before.namespaces;
@@ -128,8 +129,8 @@ built source tokens items y h symbol slots e f g =
 
 object_read : (source : List ℕ) (tokens : List Token) (items : List Item) (y : Said) (h : Headed source tokens items) → object_of source tokens h.before.before.decl h.before.selected h.iri h.symbol h.slots ≡ Some y → IsForm source tokens items y
 object_read source tokens items y h g =
-    let q = parts (λ word. option_and_then (λ numbers. found h.before.before.decl h.iri word numbers) (slots_after source tokens h.before.before.decl.columns h.before.selected [] h.slots)) (identifier_of source tokens h.symbol) y g in
-    let r = parts (λ numbers. found h.before.before.decl h.iri q.0 numbers) (slots_after source tokens h.before.before.decl.columns h.before.selected [] h.slots) y q.2 in
+    let q = parts (λ word. option_and_then (λ numbers. found h.before.before.decl h.iri word numbers) (slots_after source tokens (names_of h.before.before.decl.columns) h.before.selected [] h.slots)) (identifier_of source tokens h.symbol) y g in
+    let r = parts (λ numbers. found h.before.before.decl h.iri q.0 numbers) (slots_after source tokens (names_of h.before.before.decl.columns) h.before.selected [] h.slots) y q.2 in
     built source tokens items y h q.0 r.0 q.1 r.1 r.2
 
 head_read : (source : List ℕ) (tokens : List Token) (items : List Item) (y : Said) (h : Selected source tokens items) → head_of source tokens h.before.before.namespaces h.before.decl h.selected h.class h.object ≡ Some y → IsForm source tokens items y
@@ -170,8 +171,8 @@ chain f o x y e h = ap (λ z. option_and_then f z) e ∙ h
 pub form_is_read : (source : List ℕ) (tokens : List Token) (items : List Item) (y : Said) → IsForm source tokens items y → form_of source tokens items ≡ Some y
 form_is_read source tokens items y h =
     let object : object_of source tokens y.table h.selected y.class h.symbol h.slots ≡ Some y =
-    chain (λ word. option_and_then (λ numbers. let all : Option Said = Some (record { table = y.table; class = y.class; symbol = word; slots = numbers }) in all) (slots_after source tokens y.table.columns h.selected [] h.slots)) (identifier_of source tokens h.symbol) y.symbol y h.symbol_word
-    (chain (λ numbers. let all : Option Said = Some (record { table = y.table; class = y.class; symbol = y.symbol; slots = numbers }) in all) (slots_after source tokens y.table.columns h.selected [] h.slots) y.slots y h.slot_columns refl) in
+    chain (λ word. option_and_then (λ numbers. let all : Option Said = Some (record { table = y.table; class = y.class; symbol = word; slots = numbers }) in all) (slots_after source tokens (names_of y.table.columns) h.selected [] h.slots)) (identifier_of source tokens h.symbol) y.symbol y h.symbol_word
+    (chain (λ numbers. let all : Option Said = Some (record { table = y.table; class = y.class; symbol = y.symbol; slots = numbers }) in all) (slots_after source tokens (names_of y.table.columns) h.selected [] h.slots) y.slots y h.slot_columns refl) in
     let head : head_of source tokens h.namespaces y.table h.selected h.class h.object ≡ Some y =
     chain (λ iri. option_and_then (λ inside. object_in source tokens y.table h.selected iri inside) (node_of source tokens (codes "Obj") h.object)) (class_of source tokens h.namespaces h.class) y.class y h.class_iri
     (chain (λ inside. object_in source tokens y.table h.selected y.class inside) (node_of source tokens (codes "Obj") h.object) (h.symbol ∷ h.slots) y h.object_node object) in

@@ -8,7 +8,6 @@ use Rattle.mast_tree.specs.declared.token.Token.{Token}
 use Rattle.mast_tree.specs.declared.token.TokenKind.{TokenKind}
 use Rattle.mast_tree.specs.declared.token.TokenKind.TheVariants.{Str}
 use Rattle.mast_tree.specs.declared.item.Item.{Item}
-use Rattle.mast_tables.specs.declared.declaration.Column.{Column}
 use Rattle.mast_tree.specs.Words.{span, inside, escaped, unescaped, IsTextOf}
 use Rattle.mast_cli.specs.MappingForm.{string_word, string_at, slot_of, slots_after}
 
@@ -53,5 +52,5 @@ pub no_text_at : (source : List ℕ) (tokens : List Token) (token : ℕ) (t : To
 no_text_at source tokens token t found h = ap (λ x. string_at source x) found ∙ no_text t.kind (span source t) h
 
 -- an item that names no selected column ends the slots
-pub slots_stop : (source : List ℕ) (tokens : List Token) (columns : List Column) (selected before : List ℕ) (item : Item) (rest : List Item) → slot_of source tokens columns selected item ≡ None → slots_after source tokens columns selected before (item ∷ rest) ≡ None
+pub slots_stop : (source : List ℕ) (tokens : List Token) (columns : List (List ℕ)) (selected before : List ℕ) (item : Item) (rest : List Item) → slot_of source tokens columns selected item ≡ None → slots_after source tokens columns selected before (item ∷ rest) ≡ None
 slots_stop source tokens columns selected before item rest h = ap (λ o. option_and_then (λ n. slots_after source tokens columns selected (before ++ n ∷ []) rest) o) h

@@ -1,9 +1,10 @@
 -- The one form of a mapping document that is read so far: what its items say, or nothing where they are not of the form.
-use Rattle.std.specs.Prelude.{ℕ, ◌+◌, ◌==◌, ◌&&◌, ◌||◌, nat_lt, nat_eq, Bool, true, false, not, if◌then◌else◌, List, [], ◌∷◌, ◌++◌, length, Option, Some, None, is_some, Result, Ok, Err, map, drop, slice_get, codes, option_and_then}
+use Rattle.std.specs.Prelude.{ℕ, ◌==◌, ◌&&◌, ◌||◌, nat_lt, nat_eq, Bool, true, false, not, if◌then◌else◌, List, [], ◌∷◌, ◌++◌, length, Option, Some, None, Result, Ok, Err, map, drop, slice_get, codes, option_and_then}
 use Rattle.std.specs.Borrow.{Bor}
 use Rattle.std.specs.Char.{is_ascii_digit, is_ascii_alphanumeric}
-use Rattle.std.specs.List.{starts_with}
+use Rattle.std.specs.List.{starts_with, list_any}
 use Rattle.std.specs.Str.{bytes_eq, str_eq_ignore_ascii_case}
+use Rattle.mast_terms.specs.Vocabularies.{stands}
 use Rattle.mast_terms.specs.declared.value.Kind.{Kind}
 use Rattle.mast_terms.specs.declared.value.Kind.TheVariants as kind
 use Rattle.mast_tree.specs.declared.item.Item.{Item, out-Item}
@@ -17,6 +18,7 @@ use Rattle.mast_tree.specs.Words.{span, inside, unescaped}
 use Rattle.mast_tables.specs.declared.declaration.Column.{Column}
 use Rattle.mast_tables.specs.declared.declaration.TableDecl.{TableDecl}
 use Rattle.mast_cli.specs.declared.mapping.Mapping.{Mapping}
+use Rattle.mast_cli.specs.Columns.{names_of, number_of}
 
 -- ASCII letters, digits and `_`
 abbrev pub is_word_byte : ℕ → Bool
@@ -54,14 +56,6 @@ is_standard iri =
     || (starts_with nat_eq iri (codes "http://www.w3.org/1999/02/22-rdf-syntax-ns#")
     || (starts_with nat_eq iri (codes "http://www.w3.org/2000/01/rdf-schema#")
     || starts_with nat_eq iri (codes "http://www.w3.org/2001/XMLSchema#")))
-
--- the number of the first column of this name, counted on from a number
-abbrev pub number_from : ℕ → List Column → List ℕ → Option ℕ
-number_from n [] name = None
-number_from n (column ∷ columns) name = if bytes_eq column.name name then Some n else number_from (n + 1) columns name
-
-abbrev pub number_of : List Column → List ℕ → Option ℕ
-number_of columns name = number_from 1 columns name
 
 -- a column's kind by its word
 abbrev pub kind_of : List ℕ → Option Kind
@@ -135,56 +129,59 @@ column_of source tokens item = option_and_then (λ items. column_in source token
 abbrev pub columns_after : List ℕ → List Token → List Column → List Item → Option (List Column)
 columns_after source tokens before [] = Some before
 columns_after source tokens before (item ∷ items) =
-    option_and_then (λ column. if is_some (number_of before column.name) then None else columns_after source tokens (before ++ column ∷ []) items) (column_of source tokens item)
+    option_and_then (λ column. if stands column.name (names_of before) then None else columns_after source tokens (before ++ column ∷ []) items) (column_of source tokens item)
 
 -- the columns are numbered, so there are fewer than 4,294,967,295
 abbrev pub columns_of : List ℕ → List Token → List Item → Option (List Column)
 columns_of source tokens items = if nat_lt (length items) 4294967295 then columns_after source tokens [] items else None
+
+-- a table by its name, its file and its columns
+abbrev pub named_table : List ℕ → List Token → Item → Item → List Item → Option TableDecl
+named_table source tokens name file columns =
+    option_and_then (λ word. option_and_then (λ text. option_and_then (λ all. Some (record { name = word; file = text; columns = all })) (columns_of source tokens columns)) (string_of source tokens file)) (identifier_of source tokens name)
 
 -- `NAME "FILE" COLUMN ..`, with one column or more
 abbrev pub table_in : List ℕ → List Token → List Item → Option TableDecl
 table_in source tokens [] = None
 table_in source tokens (name ∷ []) = None
 table_in source tokens (name ∷ file ∷ []) = None
-table_in source tokens (name ∷ file ∷ column ∷ columns) =
-    option_and_then (λ word. option_and_then (λ text. option_and_then (λ all. Some (record { name = word; file = text; columns = all })) (columns_of source tokens (column ∷ columns))) (string_of source tokens file)) (identifier_of source tokens name)
+table_in source tokens (name ∷ file ∷ column ∷ columns) = named_table source tokens name file (column ∷ columns)
 
 -- the number is among these
 abbrev pub holds : List ℕ → ℕ → Bool
-holds [] n = false
-holds (m ∷ ms) n = m == n || holds ms n
+holds numbers n = list_any (nat_eq n) numbers
 
 -- the number of the column of this name, which is an identifier, no keyword, and not among those before
-abbrev pub select : List Column → List ℕ → List ℕ → Option ℕ
-select columns before name = option_and_then (λ n. if not (is_identifier name) || is_keyword name || holds before n then None else Some n) (number_of columns name)
+abbrev pub select : List (List ℕ) → List ℕ → List ℕ → Option ℕ
+select names before name = option_and_then (λ n. if not (is_identifier name) || is_keyword name || holds before n then None else Some n) (number_of names name)
 
 -- `FROM TABLE`
 abbrev pub is_from : List ℕ → List ℕ → Bool
 is_from table text = starts_with nat_eq text (codes "FROM ") && bytes_eq (drop 5 text) table
 
 -- the columns of a selection read byte by byte, after others and after the front of a name; the Bool says whether a comma stands before
-abbrev pub selected_in : List Column → List ℕ → List ℕ → List ℕ → Bool → List ℕ → Option (List ℕ)
-selected_in columns table before name true [] = None
-selected_in columns table before name false [] = None
-selected_in columns table before name true (b ∷ bs) = if b == 32 then selected_in columns table before name false bs else None
-selected_in columns table before name false (b ∷ bs) =
-    if b == 44 then option_and_then (λ n. selected_in columns table (before ++ n ∷ []) [] true bs) (select columns before name)
-    else if b == 32 then (if is_from table bs then option_and_then (λ n. Some (before ++ n ∷ [])) (select columns before name) else None)
-    else selected_in columns table before (name ++ b ∷ []) false bs
+abbrev pub selected_in : List (List ℕ) → List ℕ → List ℕ → List ℕ → Bool → List ℕ → Option (List ℕ)
+selected_in names table before name true [] = None
+selected_in names table before name false [] = None
+selected_in names table before name true (b ∷ bs) = if b == 32 then selected_in names table before name false bs else None
+selected_in names table before name false (b ∷ bs) =
+    if b == 44 then option_and_then (λ n. selected_in names table (before ++ n ∷ []) [] true bs) (select names before name)
+    else if b == 32 then (if is_from table bs then option_and_then (λ n. Some (before ++ n ∷ [])) (select names before name) else None)
+    else selected_in names table before (name ++ b ∷ []) false bs
 
 -- the columns that a query selects from the table
 abbrev pub query_of : TableDecl → List ℕ → Option (List ℕ)
-query_of table text = if is_keyword table.name || not (starts_with nat_eq text (codes "SELECT ")) then None else selected_in table.columns table.name [] [] false (drop 7 text)
+query_of table text = if is_keyword table.name || not (starts_with nat_eq text (codes "SELECT ")) then None else selected_in (names_of table.columns) table.name [] [] false (drop 7 text)
 
 -- the selected column that an item names
-unfoldable pub slot_of : List ℕ → List Token → List Column → List ℕ → Item → Option ℕ
-slot_of source tokens columns selected item =
-    option_and_then (λ name. option_and_then (λ n. if holds selected n then Some n else None) (number_of columns name)) (identifier_of source tokens item)
+unfoldable pub slot_of : List ℕ → List Token → List (List ℕ) → List ℕ → Item → Option ℕ
+slot_of source tokens names selected item =
+    option_and_then (λ name. option_and_then (λ n. if holds selected n then Some n else None) (number_of names name)) (identifier_of source tokens item)
 
 -- the slots that these items name, after others
-abbrev pub slots_after : List ℕ → List Token → List Column → List ℕ → List ℕ → List Item → Option (List ℕ)
-slots_after source tokens columns selected before [] = Some before
-slots_after source tokens columns selected before (item ∷ items) = option_and_then (λ n. slots_after source tokens columns selected (before ++ n ∷ []) items) (slot_of source tokens columns selected item)
+abbrev pub slots_after : List ℕ → List Token → List (List ℕ) → List ℕ → List ℕ → List Item → Option (List ℕ)
+slots_after source tokens names selected before [] = Some before
+slots_after source tokens names selected before (item ∷ items) = option_and_then (λ n. slots_after source tokens names selected (before ++ n ∷ []) items) (slot_of source tokens names selected item)
 
 -- what a mapping document says: a table, and the class, the object's symbol and its slots for each row
 pub record Said : Type 0 where
@@ -196,7 +193,7 @@ pub record Said : Type 0 where
 -- `SYMBOL SLOT ..`
 abbrev pub object_of : List ℕ → List Token → TableDecl → List ℕ → List ℕ → Item → List Item → Option Said
 object_of source tokens table selected class symbol slots =
-    option_and_then (λ word. option_and_then (λ numbers. Some (record { table = table; class = class; symbol = word; slots = numbers })) (slots_after source tokens table.columns selected [] slots)) (identifier_of source tokens symbol)
+    option_and_then (λ word. option_and_then (λ numbers. Some (record { table = table; class = class; symbol = word; slots = numbers })) (slots_after source tokens (names_of table.columns) selected [] slots)) (identifier_of source tokens symbol)
 
 abbrev pub object_in : List ℕ → List Token → TableDecl → List ℕ → List ℕ → List Item → Option Said
 object_in source tokens table selected class [] = None

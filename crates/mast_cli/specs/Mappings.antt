@@ -4,7 +4,7 @@ use Rattle.mast_tree.specs.declared.item.Item.{Item}
 use Rattle.mast_tree.specs.declared.token.Token.{Token}
 use Rattle.mast_tree.specs.Prefixes.{front}
 use Rattle.mast_cli.specs.declared.mapping.Mapping.{Mapping}
-use Rattle.mast_cli.specs.Columns.{AreColumns}
+use Rattle.mast_cli.specs.Columns.{AreColumns, names_of}
 use Rattle.mast_cli.specs.MappingForm.{Said, node_of, identifier_of, string_of, table_in, slots_after, class_of, main_of}
 use Rattle.mast_cli.specs.Queries.{IsQuery}
 
@@ -42,4 +42,4 @@ pub record IsForm (source : List ℕ) (tokens : List Token) (items : List Item) 
   pub slots : List Item
   pub object_node : node_of source tokens (codes "Obj") object ≡ Some (symbol ∷ slots)
   pub symbol_word : identifier_of source tokens symbol ≡ Some said.symbol
-  pub slot_columns : slots_after source tokens said.table.columns selected [] slots ≡ Some said.slots
+  pub slot_columns : slots_after source tokens (names_of said.table.columns) selected [] slots ≡ Some said.slots

@@ -4,10 +4,13 @@
 // It is the only crate that knows words, printed lines and statuses. No other crate prints a refusal.
 #![tactic(auto)]
 
+mod declared;
 mod events;
 mod facts;
+mod items;
 mod judged;
 mod mapping;
+mod query;
 mod stages;
 mod status;
 #[cfg(test)]

@@ -1,7 +1,7 @@
 -- The text of a string's token, and none of another.
 use Rattle.std.proofs.Common.{sym, ◌∙◌}
 use Rattle.mast_cli.proofs.MappingLemmas.{text_at, no_text_at}
-use Rattle.mast_cli.proofs.mapping.string_text.Goals as goal
+use Rattle.mast_cli.proofs.items.string_text.Goals as goal
 
 pub returns-in_ok-text-in-Str : goal.returns-in_ok-text-in-Str
 returns-in_ok-text-in-Str c = λ a.

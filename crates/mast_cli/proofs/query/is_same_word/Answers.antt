@@ -2,7 +2,7 @@
 use Rattle.std.specs.Bool.{one_answer}
 use Rattle.std.specs.Str.{bytes_eq, str_to_ascii_lowercase}
 use Rattle.std.proofs.lemmas.Slice.Eq.{bytes_eq-Decides}
-use Rattle.mast_cli.proofs.mapping.is_same_word.Goals as goal
+use Rattle.mast_cli.proofs.query.is_same_word.Goals as goal
 
 pub returns : goal.returns
 returns c =
