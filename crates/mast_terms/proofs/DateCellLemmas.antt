@@ -1,5 +1,7 @@
 -- Reading a date part by part: where a part ends, and what it tells of the whole.
 use Rattle.std.proofs.Common.{◌≡◌, ℕ, zero, suc, ◌+◌, ◌*◌, ◌-◌, ◌/◌, ◌%◌, ◌<◌, ◌≤◌, List, [], ◌∷◌, ◌++◌, length, get_or, take, drop, refl, ap, sym, ◌∙◌, subst, append_assoc, arith}
+use Rattle.std.specs.Prelude.{Bool, true, false, ◌==◌, if◌then◌else◌}
+use Rattle.std.specs.Int.{from_bool}
 use Rattle.std.proofs.Math.Seq.{take-append-add}
 use Rattle.std.proofs.lemmas.List.{length-append, take_rest}
 use Rattle.std.proofs.lemmas.Bool.Decides.{nat_tests}
@@ -182,6 +184,14 @@ some_day year month = grind (arith, nat_tests)
 
 first_of_month : (year month : ℕ) → 1 ≤ year → year ≤ 9999 → 1 ≤ month → month ≤ 12 → IsDay year month 1
 first_of_month year month a b c d = record { year_from = a; year_to = b; month_from = c; month_to = d; day_from = omega arith; day_to = some_day year month }
+
+-- the least year of a century, as it is computed
+one_if : (b : Bool) → from_bool b ≡ (if b then 1 else 0)
+one_if true = refl
+one_if false = refl
+
+pub least_is : (century : ℕ) → from_bool (century == 0) ≡ least_in_century century
+least_is century = one_if (century == 0)
 
 -- what a century says of the year
 least_year : (century year : ℕ) → least_in_century century ≤ year → 1 ≤ 100 * century + year

@@ -1,16 +1,43 @@
 -- The order of terms: a value before an object; an integer before a text before a date; texts by bytes; objects by symbol and then by arguments.
-use Rattle.std.specs.Prelude.{◌≡◌, ◌↔◌, List, true, Bool}
+use Rattle.std.specs.Prelude.{◌≡◌, ◌↔◌, ℕ, List, true, Bool}
 use Rattle.std.specs.Cmp.{IsTotalOrder}
 use Rattle.std.specs.Cmp.Lexicographic.{slice_cmp}
 use Rattle.std.specs.Ordering.{nat_cmp, int_cmp, ordering_then}
 use Rattle.std.specs.declared.cmp.Ordering.{Ordering}
 use Rattle.std.specs.declared.cmp.Ordering.TheVariants.{Less, Equal, Greater}
 use Rattle.mast_terms.specs.declared.date.Date.{Date}
+use Rattle.mast_terms.specs.declared.name.Name.{Name}
+use Rattle.mast_terms.specs.declared.name.NameKind.{NameKind}
+use Rattle.mast_terms.specs.declared.name.NameKind.TheVariants as nk
 use Rattle.mast_terms.specs.declared.term.Object.{Object}
 use Rattle.mast_terms.specs.declared.term.Term.{Term}
 use Rattle.mast_terms.specs.declared.term.Term.TheVariants as t
+use Rattle.mast_terms.specs.declared.value.Kind.{Kind}
+use Rattle.mast_terms.specs.declared.value.Kind.TheVariants as k
 use Rattle.mast_terms.specs.declared.value.Value.{Value}
 use Rattle.mast_terms.specs.declared.value.Value.TheVariants as v
+
+-- names by their numbers
+abbrev pub name_order : Name → Name → Ordering
+name_order a b = nat_cmp a.0 b.0
+
+-- a class before a role before an attribute
+abbrev pub name_kind_place : NameKind → ℕ
+name_kind_place nk.Class = 0
+name_kind_place nk.Role = 1
+name_kind_place nk.Attr = 2
+
+abbrev pub name_kind_order : NameKind → NameKind → Ordering
+name_kind_order a b = nat_cmp (name_kind_place a) (name_kind_place b)
+
+-- text before integer before date
+abbrev pub kind_place : Kind → ℕ
+kind_place k.Text = 0
+kind_place k.Integer = 1
+kind_place k.Date = 2
+
+abbrev pub kind_order : Kind → Kind → Ordering
+kind_order a b = nat_cmp (kind_place a) (kind_place b)
 
 -- days in their order
 abbrev pub date_order : Date → Date → Ordering

@@ -23,22 +23,11 @@ pub fn read_date(bytes: &[u8]) -> Result<Date, BadDate>
     ensures refuses { IfErr result (λ bad. IsDateText bytes.now → ⊥) }
     ensures at { IfErr result (λ bad. IsLongestFront IsDateText bytes.now bad.at) }
 {
-    match read_century(bytes) {
-        Ok(date) => Ok(date),
-        Err(at) => Err(BadDate { at }),
-    }
-}
-
-// A whole cell.
-fn read_century(bytes: &[u8]) -> Result<Date, usize>
-    ensures accepts { IfOk result (λ date. bytes.now ≡ date_text date) }
-    ensures stops { IfErr result (λ at. Stops IsDateText bytes.now at) }
-{
     match read_two_digits(bytes, 0, 99) {
-        Err(at) => Err(at),
+        Err(at) => Err(BadDate { at }),
         Ok(century) => match read_year(&bytes[2..], century) {
             Ok(date) => Ok(date),
-            Err(at) => Err(2 + at),
+            Err(at) => Err(BadDate { at: 2 + at }),
         },
     }
 }
@@ -49,7 +38,9 @@ fn read_year(bytes: &[u8], century: u8) -> Result<Date, usize>
     ensures accepts { IfOk result (λ date. two_digits century ++ bytes.now ≡ date_text date) }
     ensures stops { IfErr result (λ at. Stops (After (two_digits century)) bytes.now at) }
 {
-    match read_two_digits(bytes, least_year(century), 99) {
+    // There is no year 0.
+    let least = u8::from(century == 0);
+    match read_two_digits(bytes, least, 99) {
         Err(at) => Err(at),
         Ok(year) => {
             match read_month(&bytes[2..], u16::from(century) * 100 + u16::from(year)) {
@@ -58,14 +49,6 @@ fn read_year(bytes: &[u8], century: u8) -> Result<Date, usize>
             }
         }
     }
-}
-
-// The least number that may follow the century.
-fn least_year(century: u8) -> u8
-    ensures least { result ≡ least_in_century century }
-    ensures small { result ≤ 1 }
-{
-    if century == 0 { 1 } else { 0 }
 }
 
 // What follows the year.

@@ -1,32 +1,59 @@
 //! The laws of equality and order.
-ghost use Rattle.mast_terms.specs.Orders.{value_order, object_order, term_order, tuple_order, TestsEquality, ComparesBy, OrdersAll};
+ghost use Rattle.std.specs.Cmp.Lexicographic.{slice_cmp};
+ghost use Rattle.std.specs.Ordering.{nat_cmp};
+ghost use Rattle.mast_terms.specs.Orders.{name_order, name_kind_order, kind_order, date_order, value_order, object_order, term_order, tuple_order, TestsEquality, ComparesBy, OrdersAll};
 
-use crate::{List, Object, Term, Value};
+use crate::{Args, Date, Kind, List, Name, NameKind, Object, Term, Text, Value};
 
-/// Laws of values: `==` holds exactly of equal ones, and `cmp` is their order, in which only equal ones tie.
+/// Laws of names and of both kinds of kinds: `==` holds exactly of equal ones, and `cmp` is their order, in which only equal ones tie.
+pub fn names_are_ordered()
+    ensures equality { TestsEquality ⟦<Name as PartialEq>⟧.eq }
+    ensures compares { ComparesBy name_order ⟦<Name as Ord>⟧.cmp }
+    ensures order { OrdersAll name_order }
+    ensures name_kind_equality { TestsEquality ⟦<NameKind as PartialEq>⟧.eq }
+    ensures name_kind_compares { ComparesBy name_kind_order ⟦<NameKind as Ord>⟧.cmp }
+    ensures name_kind_order { OrdersAll name_kind_order }
+    ensures kind_equality { TestsEquality ⟦<Kind as PartialEq>⟧.eq }
+    ensures kind_compares { ComparesBy kind_order ⟦<Kind as Ord>⟧.cmp }
+    ensures kind_order { OrdersAll kind_order }
+{}
+
+/// Laws of lists whose elements have the laws: `==` holds exactly of equal ones, and `cmp` goes by the first element that differs.
+pub fn lists_are_ordered<T: Ord>()
+    ensures equality { TestsEquality T.eq → TestsEquality ⟦<List<T> as PartialEq>⟧.eq }
+    ensures compares { ComparesBy (slice_cmp T.cmp) ⟦<List<T> as Ord>⟧.cmp }
+    ensures order { TestsEquality T.eq → OrdersAll (slice_cmp T.cmp) }
+{}
+
+/// Laws of values, and of the texts and dates among them: `==` holds exactly of equal ones, and `cmp` is their order, in which only equal ones tie.
 pub fn values_are_ordered()
     ensures equality { TestsEquality ⟦<Value as PartialEq>⟧.eq }
     ensures compares { ComparesBy value_order ⟦<Value as Ord>⟧.cmp }
     ensures order { OrdersAll value_order }
+    ensures text_equality { TestsEquality ⟦<Text as PartialEq>⟧.eq }
+    ensures text_compares { ComparesBy (slice_cmp nat_cmp) ⟦<Text as Ord>⟧.cmp }
+    ensures text_order { OrdersAll (slice_cmp nat_cmp) }
+    ensures date_equality { TestsEquality ⟦<Date as PartialEq>⟧.eq }
+    ensures date_compares { ComparesBy date_order ⟦<Date as Ord>⟧.cmp }
+    ensures date_order { OrdersAll date_order }
 {}
 
-/// Laws of objects: `==` holds exactly of equal ones, and `cmp` is their order, in which only equal ones tie.
+/// Laws of objects and of their arguments: `==` holds exactly of equal ones, and `cmp` is their order, in which only equal ones tie.
 pub fn objects_are_ordered()
     ensures equality { TestsEquality ⟦<Object as PartialEq>⟧.eq }
     ensures compares { ComparesBy object_order ⟦<Object as Ord>⟧.cmp }
     ensures order { OrdersAll object_order }
+    ensures args_equality { TestsEquality ⟦<Args as PartialEq>⟧.eq }
+    ensures args_compares { ComparesBy (slice_cmp value_order) ⟦<Args as Ord>⟧.cmp }
+    ensures args_order { OrdersAll (slice_cmp value_order) }
 {}
 
-/// Laws of terms: `==` holds exactly of equal ones, and `cmp` is their order, in which only equal ones tie.
+/// Laws of terms and tuples: `==` holds exactly of equal ones, and `cmp` is their order, in which only equal ones tie.
 pub fn terms_are_ordered()
     ensures equality { TestsEquality ⟦<Term as PartialEq>⟧.eq }
     ensures compares { ComparesBy term_order ⟦<Term as Ord>⟧.cmp }
     ensures order { OrdersAll term_order }
-{}
-
-/// Laws of tuples: `==` holds exactly of equal ones, and `cmp` is their order, in which only equal ones tie.
-pub fn tuples_are_ordered()
-    ensures equality { TestsEquality ⟦<List<Term> as PartialEq>⟧.eq }
-    ensures compares { ComparesBy tuple_order ⟦<List<Term> as Ord>⟧.cmp }
-    ensures order { OrdersAll tuple_order }
+    ensures tuple_equality { TestsEquality ⟦<List<Term> as PartialEq>⟧.eq }
+    ensures tuple_compares { ComparesBy tuple_order ⟦<List<Term> as Ord>⟧.cmp }
+    ensures tuple_order { OrdersAll tuple_order }
 {}

@@ -1,13 +1,13 @@
-use Rattle.std.proofs.Common.{◌+◌, ◌*◌, ◌-◌, take, drop, length, subst, arith}
+use Rattle.std.proofs.Common.{◌∙◌, ◌+◌, ◌*◌, ◌-◌, take, drop, length, subst, arith}
 use Rattle.mast_terms.specs.DateCell.{After, NotShown}
 use Rattle.mast_terms.specs.Printed.{two_digits}
-use Rattle.mast_terms.proofs.DateCellLemmas.{year_stops, year_step, step_rest}
+use Rattle.mast_terms.proofs.DateCellLemmas.{least_is, year_stops, year_step, step_rest}
 use Rattle.mast_terms.proofs.date_cell.read_year.Goals as goal
 
 pub returns-in-Err-clause-stops : goal.returns-in-Err-clause-stops
 returns-in-Err-clause-stops c =
     year_stops c.args.century c.args.bytes.now c.in-Err.at c.requires
-    (subst (λ least. NotShown two_digits least 99 c.args.bytes.now c.in-Err.at) c.least_year.ensures.least c.in-Err.ensures.stops)
+    (subst (λ least. NotShown two_digits least 99 c.args.bytes.now c.in-Err.at) (c.from-least.ensures ∙ least_is c.args.century) c.in-Err.ensures.stops)
 
 pub returns-in-Err-read_month-clause-stops : goal.returns-in-Err-read_month-clause-stops
 returns-in-Err-read_month-clause-stops c =

@@ -1,4 +1,4 @@
-use Rattle.mast_terms.proofs.OrderLemmas.{term_equality_test, term_compares, term_orders}
+use Rattle.mast_terms.proofs.OrderLemmas.{term_equality_test, term_compares, term_orders, tuple_equality_test, tuple_compares, tuple_orders}
 use Rattle.mast_terms.proofs.orders.terms_are_ordered.Goals as goal
 
 pub returns-clause-equality : goal.returns-clause-equality
@@ -9,3 +9,12 @@ returns-clause-compares c = term_compares
 
 pub returns-clause-order : goal.returns-clause-order
 returns-clause-order c = term_orders
+
+pub returns-clause-tuple_equality : goal.returns-clause-tuple_equality
+returns-clause-tuple_equality c = tuple_equality_test
+
+pub returns-clause-tuple_compares : goal.returns-clause-tuple_compares
+returns-clause-tuple_compares c = tuple_compares
+
+pub returns-clause-tuple_order : goal.returns-clause-tuple_order
+returns-clause-tuple_order c = tuple_orders
