@@ -1,7 +1,7 @@
 //! What no clause says: outside values, and that calls succeed where memory is there.
 use crate::{
-    Args, BadDate, BadInt, Date, NameKind, NoMemory, Object, Stop, Term, Text, Value, Vocabulary,
-    read_date, read_int, write_term,
+    Args, BadDate, BadInt, Date, List, NameKind, NoMemory, Object, Stop, Term, Text, Value,
+    Vocabulary, read_date, read_int, write_term,
 };
 use std::alloc::Global;
 use std::test::Fail;
@@ -113,11 +113,12 @@ fn added(
     }
 }
 
-// How many of the answers are as wanted.
+// How many of the answers are as wanted. Each call is made on a copy of what the calls before it left.
 fn right_answers(alloc: Global, cases: &[(NameKind, &str, Option<u32>)]) -> Result<u64, NoMemory> {
     let mut vocabulary = Vocabulary::new(alloc);
     let mut right = 0u64;
     for (kind, iri, want) in cases {
+        vocabulary = vocabulary.copy(alloc)?;
         if added(&mut vocabulary, alloc, *kind, iri)? == *want {
             right = right.wrapping_add(1);
         }
@@ -149,11 +150,13 @@ fn numbered(vocabulary: &mut Vocabulary, alloc: Global, value: &Value) -> Result
     }
 }
 
-fn constants_added(alloc: Global, numbers: &[i64]) -> Result<Vec<u32>, NoMemory> {
+fn constants_added(alloc: Global, numbers: &[i64]) -> Result<List<u32>, NoMemory> {
     let mut vocabulary = Vocabulary::new(alloc);
-    let mut given = Vec::new(alloc);
+    let mut given = List::new(alloc);
     for number in numbers {
-        given.push(numbered(&mut vocabulary, alloc, &Value::Int(*number))?)?;
+        vocabulary = vocabulary.copy(alloc)?;
+        let place = numbered(&mut vocabulary, alloc, &Value::Int(*number))?;
+        given.push(alloc, place)?;
     }
     Ok(given)
 }
