@@ -153,11 +153,11 @@ str_text source tokens i t u bytes chars text k s n read = subst (λ x. IsTextOf
         f.1 ∙ ap (λ x. 34 ∷ (escaped x ++ (34 ∷ []))) (sym (read f.0 is utf8))
     go _ h = tt
 
-pub text_unescaped : (source : List ℕ) (tokens : List Token) (i : ℕ) (t u : Token) (bytes chars plain shown text : List ℕ) → Taken source tokens i u bytes → slice_get tokens i ≡ Some t → chars ≡ inside bytes → plain ≡ unescaped false chars → (IsUtf8 plain → shown ≡ plain) → text ≡ shown → IsTextOf t.kind (span source t) text
-text_unescaped source tokens i t u bytes chars plain shown text k s n p v e = str_text source tokens i t u bytes chars text k s n read
+pub text_unescaped : (source : List ℕ) (tokens : List Token) (i : ℕ) (t u : Token) (bytes chars plain text : List ℕ) → Taken source tokens i u bytes → slice_get tokens i ≡ Some t → chars ≡ inside bytes → plain ≡ unescaped false chars → (IsUtf8 plain → text ≡ plain) → IsTextOf t.kind (span source t) text
+text_unescaped source tokens i t u bytes chars plain text k s n p v = str_text source tokens i t u bytes chars text k s n read
   where
     read : (x : List ℕ) → chars ≡ escaped x → IsUtf8 (escaped x) → text ≡ x
-    read x c w = let is : plain ≡ x = p ∙ ap (λ y. unescaped false y) c ∙ unescaped_of x in e ∙ v (subst IsUtf8 (sym is) (escaped_text [] x w)) ∙ is
+    read x c w = let is : plain ≡ x = p ∙ ap (λ y. unescaped false y) c ∙ unescaped_of x in v (subst IsUtf8 (sym is) (escaped_text [] x w)) ∙ is
 
 pub text_plain : (source : List ℕ) (tokens : List Token) (i : ℕ) (t u : Token) (bytes chars shown text : List ℕ) → Taken source tokens i u bytes → slice_get tokens i ≡ Some t → chars ≡ inside bytes → has_escape chars ≡ false → (IsUtf8 chars → shown ≡ chars) → text ≡ shown → IsTextOf t.kind (span source t) text
 text_plain source tokens i t u bytes chars shown text k s n h v e = str_text source tokens i t u bytes chars text k s n read

@@ -189,9 +189,10 @@ impl PrefixTable {
 fn joined(alloc: Global, namespace: &str, name: &str) -> Result<Text, NoMemory>
     ensures { IfOk result (λ iri. iri ≡ namespace.now ++ name.now) }
 {
-    let mut iri = String::from_str(alloc, namespace)?;
+    let mut iri = String::with_capacity(alloc, namespace.len() + name.len())?;
+    iri.push_str(namespace)?;
     iri.push_str(name)?;
-    Ok(Text::from_str(alloc, iri.as_str())?)
+    Ok(Text::from_string(iri))
 }
 
 /// The prefixes of a document, whose main node has the given word: `Ontology`, `Constraints` or `Mappings`. A breach is

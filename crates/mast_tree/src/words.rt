@@ -54,11 +54,21 @@ fn has_escape(bytes: &[u8]) -> bool
     false
 }
 
+/// The bytes as a text, which are not copied; nothing where they are none.
+fn into_text(alloc: Global, bytes: Vec<u8>) -> Text
+    ensures { IsUtf8 bytes.items → result ≡ bytes.items }
+{
+    match String::from_utf8(bytes) {
+        Ok(text) => Text::from_string(text),
+        Err(_) => Text::from_string(String::new(alloc)),
+    }
+}
+
 /// The bytes without the backslashes that escape.
 fn unescaped(alloc: Global, bytes: &[u8]) -> Result<Vec<u8>, NoMemory>
     ensures { IfOk result (λ text. text.items ≡ words.unescaped false bytes.now) }
 {
-    let mut text = Vec::new(alloc);
+    let mut text = Vec::with_capacity(alloc, bytes.len())?;
     let mut escaped = false;
     for b in bytes {
         if !escaped && *b == b'\\' {
@@ -116,7 +126,7 @@ impl<'a> Doc<'a> {
                 let chars = inside(between(self.source, t.from as usize, t.to as usize));
                 if has_escape(chars) {
                     let text = unescaped(alloc, chars)?;
-                    Text::from_str(alloc, as_text(text.as_slice()))
+                    Ok(into_text(alloc, text))
                 } else {
                     Text::from_str(alloc, as_text(chars))
                 }
