@@ -8,6 +8,8 @@ use Rattle.mast_tree.specs.declared.item.TreeBreach.{TreeBreach}
 use Rattle.mast_tree.specs.Tokens.{is_token, feeds}
 use Rattle.mast_tree.specs.Words.{span}
 use Rattle.mast_tree.specs.Trees.{IsTree, IsTreeBreach}
+use Rattle.mast_tree.specs.declared.shape.ShapeBreach.{ShapeBreach}
+use Rattle.mast_tree.specs.PrefixNodes.{IsFront, IsFrontBreach}
 
 -- tokens have one tree, or one first breach, and not both
 pub record HasOneTree (tokens : List Token) : Type 0 where
@@ -43,3 +45,13 @@ pub record ArePlaced (source : List ℕ) (tokens : List Token) : Type 0 where
 
 abbrev pub SpanLaw : Type 0
 SpanLaw = (source : List ℕ) (tokens : List Token) → AreTokens source tokens → ArePlaced source tokens
+
+-- the items of a document have one table of prefixes up to the main node, or one first breach, and not both
+pub record HasOneFront (source : List ℕ) (tokens : List Token) (word : List ℕ) (items : List Item) : Type 0 where
+  pub either : ((table : List (List ℕ × List ℕ)) × IsFront source tokens word items table) ⊎ ((breach : ShapeBreach) × IsFrontBreach source tokens word items breach)
+  pub not_both : (table : List (List ℕ × List ℕ)) (breach : ShapeBreach) → IsFront source tokens word items table → IsFrontBreach source tokens word items breach → ⊥
+  pub one_table : (a b : List (List ℕ × List ℕ)) → IsFront source tokens word items a → IsFront source tokens word items b → a ≡ b
+  pub one_breach : (a b : ShapeBreach) → IsFrontBreach source tokens word items a → IsFrontBreach source tokens word items b → a ≡ b
+
+abbrev pub FrontLaw : Type 0
+FrontLaw = (source : List ℕ) (tokens : List Token) (word : List ℕ) (items : List Item) → HasOneFront source tokens word items

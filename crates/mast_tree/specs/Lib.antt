@@ -5,6 +5,7 @@ pub mod Lexed
 pub mod Machine
 pub mod Outcome
 pub mod Parts
+pub mod PrefixNodes
 pub mod Prefixes
 pub mod Scan
 pub mod Source

@@ -1,5 +1,5 @@
 // What the definitions promise by themselves: laws, which no code calls.
-ghost use Rattle.mast_tree.specs.Laws.{SpanLaw, TokenLaw, TreeLaw};
+ghost use Rattle.mast_tree.specs.Laws.{FrontLaw, SpanLaw, TokenLaw, TreeLaw};
 
 /// Tokens have a tree or a first breach of the grammar, not both, and only one.
 pub fn tree_law()
@@ -14,4 +14,9 @@ pub fn token_law()
 /// Tokens are slices of the source, in order, and the line of each is 1 and the line feeds before it.
 pub fn span_law()
     ensures { SpanLaw }
+{}
+
+/// The items of a document have one table of prefixes up to the main node or one first breach, and not both.
+pub fn front_law()
+    ensures { FrontLaw }
 {}

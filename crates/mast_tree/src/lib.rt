@@ -19,7 +19,7 @@ mod trees;
 mod words;
 
 pub use item::{Doc, DocName, Item, TreeBreach, TreeKind};
-pub use laws::{span_law, token_law, tree_law};
+pub use laws::{front_law, span_law, token_law, tree_law};
 pub use lexer::tokens;
 pub use prefix::{PrefixTable, prefixes};
 pub use reader::read_doc;

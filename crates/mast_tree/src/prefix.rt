@@ -3,6 +3,7 @@ ghost use Rattle.std.specs.Prelude.{◌≡◌, ◌++◌, ◌∷◌, [], List, �
 ghost use Rattle.mast_terms.specs.declared.memory.Stop.TheVariants as stop;
 ghost use Rattle.mast_tree.specs.Outcome.{Answers};
 ghost use Rattle.mast_tree.specs.Parts as parts;
+ghost use Rattle.mast_tree.specs.PrefixNodes.{IsFront, IsFrontBreach};
 ghost use Rattle.mast_tree.specs.Prefixes as spec;
 ghost use Rattle.mast_tree.specs.Source.{AreTokens};
 ghost use Rattle.mast_tree.specs.Tables.{shown};
@@ -195,9 +196,7 @@ fn joined(alloc: Global, namespace: &str, name: &str) -> Result<Text, NoMemory>
     Ok(Text::from_string(iri))
 }
 
-/// The prefixes of a document, whose main node has the given word: `Ontology`, `Constraints` or `Mappings`. A breach is
-/// the first one up to that node.
-pub fn prefixes(alloc: Global, doc: &Doc, word: &str) -> Result<PrefixTable, Stop<ShapeBreach>>
+fn read_prefixes(alloc: Global, doc: &Doc, word: &str) -> Result<PrefixTable, Stop<ShapeBreach>>
     ensures { Answers result (λ table. AreTokens doc.now.source.now doc.now.tokens.now → spec.front doc.now.source.now doc.now.tokens.now word.now [] doc.now.items ≡ Ok table) (λ breach. AreTokens doc.now.source.now doc.now.tokens.now → spec.front doc.now.source.now doc.now.tokens.now word.now [] doc.now.items ≡ Err breach) }
 {
     let mut table = PrefixTable {
@@ -215,4 +214,13 @@ pub fn prefixes(alloc: Global, doc: &Doc, word: &str) -> Result<PrefixTable, Sto
         }
     }
     Err(shape(1, ShapeKind::Shape))
+}
+
+/// The prefixes of a document, whose main node has the given word: `Ontology`, `Constraints` or `Mappings`. A breach is
+/// the first one up to that node.
+pub fn prefixes(alloc: Global, doc: &Doc, word: &str) -> Result<PrefixTable, Stop<ShapeBreach>>
+    ensures front { Answers result (λ table. AreTokens doc.now.source.now doc.now.tokens.now → IsFront doc.now.source.now doc.now.tokens.now word.now doc.now.items table) (λ breach. AreTokens doc.now.source.now doc.now.tokens.now → IsFrontBreach doc.now.source.now doc.now.tokens.now word.now doc.now.items breach) }
+    ensures value { Answers result (λ table. AreTokens doc.now.source.now doc.now.tokens.now → spec.front doc.now.source.now doc.now.tokens.now word.now [] doc.now.items ≡ Ok table) (λ breach. AreTokens doc.now.source.now doc.now.tokens.now → spec.front doc.now.source.now doc.now.tokens.now word.now [] doc.now.items ≡ Err breach) }
+{
+    read_prefixes(alloc, doc, word)
 }
