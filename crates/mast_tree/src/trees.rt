@@ -27,6 +27,22 @@ pub struct Trees {
     first: u32,
 }
 
+/// The greatest number of items that are moved into a buffer of their size. More of them stay in the buffer in which they
+/// grew: nothing was written to its rest, and a copy would take as much again.
+const FEW: usize = 4096;
+
+/// The items, in a buffer of their size where they are few.
+fn trimmed(alloc: Global, items: Items<Item>) -> Result<Items<Item>, NoMemory>
+    ensures { IfOk result (λ same. same ≡ items) }
+{
+    if items.len() > FEW {
+        return Ok(items);
+    }
+    let mut exact = Items::from_vec(Vec::with_capacity(alloc, items.len())?);
+    exact.append(items)?;
+    Ok(exact)
+}
+
 impl Trees {
     pub fn new(alloc: Global) -> Trees
         ensures frames { result.frames ≡ [] }
@@ -62,28 +78,26 @@ impl Trees {
     }
 
     /// Closes the innermost node.
-    fn close(&mut self) -> Result<(), NoMemory>
+    fn close(&mut self, alloc: Global) -> Result<(), NoMemory>
         ensures { OnOk result (0 < length self.old.frames → Closes self.old self.new) }
     {
         match self.frames.pop() {
             None => Ok(()),
             Some(Frame { items, token }) => {
                 let inside = mem::replace(&mut self.items, items);
-                self.push(Item::Node {
-                    token,
-                    items: inside,
-                })
+                let items = trimmed(alloc, inside)?;
+                self.push(Item::Node { token, items })
             }
         }
     }
 
     /// Reads the first token of an item, or a parenthesis that closes.
-    fn start(&mut self, kind: TokenKind, at: u32) -> Result<(), NoMemory>
+    fn start(&mut self, alloc: Global, kind: TokenKind, at: u32) -> Result<(), NoMemory>
         ensures { OnOk result ((ks : List Kind) → length ks ≡ at → Grown 0 self.old.frames self.old.items ks → GrowsTo (machine.item_step (length self.old.frames) kind) self.new (ks ++ kind ∷ [])) }
     {
         match kind {
             TokenKind::Iri => self.push(Item::Iri { token: at }),
-            TokenKind::Close => self.close(),
+            TokenKind::Close => self.close(alloc),
             _ => {
                 self.first = at;
                 Ok(())
@@ -99,12 +113,12 @@ impl Trees {
             TokenKind::Open => self.open(alloc),
             _ => {
                 self.push(Item::Leaf { token: self.first })?;
-                self.start(kind, at)
+                self.start(alloc, kind, at)
             }
         }
     }
 
-    fn after_str(&mut self, kind: TokenKind, at: u32) -> Result<(), NoMemory>
+    fn after_str(&mut self, alloc: Global, kind: TokenKind, at: u32) -> Result<(), NoMemory>
         ensures { OnOk result ((ks : List Kind) → length ks ≡ at → GrownAt Place.AfterStr self.old ks → GrowsTo (machine.step Place.AfterStr (length self.old.frames) kind) self.new (ks ++ kind ∷ [])) }
     {
         match kind {
@@ -118,7 +132,7 @@ impl Trees {
                     token: self.first,
                     tag: None,
                 })?;
-                self.start(kind, at)
+                self.start(alloc, kind, at)
             }
         }
     }
@@ -134,9 +148,9 @@ impl Trees {
         ensures { OnOk result ((ks : List Kind) → length ks ≡ at → GrownAt place self.old ks → GrowsTo (machine.step place (length self.old.frames) kind) self.new (ks ++ kind ∷ [])) }
     {
         match place {
-            Place::Item => self.start(kind, at),
+            Place::Item => self.start(alloc, kind, at),
             Place::AfterName => self.after_name(alloc, kind, at),
-            Place::AfterStr => self.after_str(kind, at),
+            Place::AfterStr => self.after_str(alloc, kind, at),
             Place::AfterCarets => self.push(Item::Str {
                 token: self.first,
                 tag: Some(at),
