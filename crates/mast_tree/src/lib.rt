@@ -1,6 +1,6 @@
 //! Tokens and trees of a document: the ontology, the constraints or the mappings.
 //! The crates above rest on this: a document is the tree that the grammar gives, or the answer is its first breach.
-//! `specs/Source.antt` has the tokens of a source, `Grammar.antt` and `Trees.antt` the trees, `Prefixes.antt` the IRIs.
+//! In `specs/`, `Source` has the tokens, `Grammar` and `Trees` the trees, `PrefixNodes` the prefixes and `Prefixes` the IRIs.
 //! It must not know what a node means: neither axioms nor tables.
 #![tactic(auto)]
 
