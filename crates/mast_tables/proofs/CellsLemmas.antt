@@ -4,14 +4,16 @@ use Rattle.std.specs.Prelude.{Option, Some, None, slice_get, option_and_then}
 use Rattle.std.specs.List.{fold, position, position_or_len, list_any, IsDistinct, AllByRecursion}
 use Rattle.std.proofs.lemmas.List.{map-append, get_or-map, length_push}
 use Rattle.std.proofs.lemmas.List.Sums.{fold-append}
-use Rattle.std.proofs.lemmas.Option.{slice_get_within}
+use Rattle.std.proofs.lemmas.List.Folds.{list_any_at}
+use Rattle.std.proofs.lemmas.List.Quantifiers.{position-Some}
+use Rattle.std.proofs.lemmas.Option.{slice_get_within, slice_get-get_or}
 use Rattle.std.proofs.lemmas.Map.Keys.{IsDistinct-head, IsDistinct-tail}
 use Rattle.std.proofs.lemmas.Bool.Decides.{nat_tests}
 use Rattle.indexmap.specs.IndexSet.{insert_key}
 use Rattle.mast_terms.specs.declared.value.Value.{Value}
 use Rattle.mast_terms.specs.contracts.value.ValueEq.TheImpl.Laws as laws
 use Rattle.mast_terms.proofs.SameLemmas.{value_same}
-use Rattle.mast_tables.specs.Cells.{same, present, different, number_among, marked, MarksWithin, AreMarks}
+use Rattle.mast_tables.specs.Cells.{same, present, different, number_among, marked, MarksWithin, AreNumbered, AreMarks, IsMarked}
 
 same_refl : (v : Value) → same v v ≡ true
 same_refl v = laws.laws-law.refl v
@@ -59,6 +61,10 @@ within_at n [] p h lt = absurd (omega arith)
 within_at n (m ∷ ms) zero h lt = h.0
 within_at n (m ∷ ms) (suc p) h lt = within_at n ms p h.1 (omega arith)
 
+mark_within : (vs : List Value) (m : ℕ) (v : Value) → marked vs m ≡ Some v → m ≤ length vs
+mark_within vs zero v e = omega arith
+mark_within vs (suc n) v e = omega (arith, slice_get_within vs n v e)
+
 -- a key that is inserted leaves the keys, or goes last
 insert_cases : (vs : List Value) (v : Value) → (insert_key same vs v ≡ vs) ⊎ (insert_key same vs v ≡ vs ++ v ∷ [])
 insert_cases vs v = by (list_any (same v) vs)
@@ -76,35 +82,56 @@ kept_within vs vs2 v ms h (inl e) = rw e h
 kept_within vs vs2 v ms h (inr e) = within_more (length vs) (length vs2) ms (omega (arith, ap length e, length_push vs v)) h
 
 -- a missing cell behind the others
-pub none_added : (vs : List Value) (ms : List ℕ) → AreMarks vs ms → AreMarks vs (ms ++ 0 ∷ [])
+none_added : (vs : List Value) (ms : List ℕ) → AreMarks vs ms → AreMarks vs (ms ++ 0 ∷ [])
 none_added vs ms h =
     let e : map (marked vs) (ms ++ 0 ∷ []) ≡ map (marked vs) ms ++ None ∷ [] = map-append (marked vs) ms (0 ∷ []) in
     record {
       within = within_push (length vs) ms 0 h.within (omega arith);
       values_are = h.values_are ∙ sym (different_none (map (marked vs) ms)) ∙ ap different (sym e);
-      apart = h.apart;
-      few = h.few;
+      numbered = h.numbered;
     }
 
 -- a value behind the others: the cells
-pub some_cells : (vs vs2 : List Value) (ms : List ℕ) (v k : Value) (i : ℕ) → AreMarks vs ms → vs2 ≡ insert_key same vs v → slice_get vs2 i ≡ Some k → same v k ≡ true → map (marked vs2) (ms ++ (i + 1) ∷ []) ≡ map (marked vs) ms ++ Some v ∷ []
-some_cells vs vs2 ms v k i h e at is =
+some_cells : (vs vs2 : List Value) (ms : List ℕ) (v : Value) (m : ℕ) → MarksWithin (length vs) ms → vs2 ≡ insert_key same vs v → marked vs2 m ≡ Some v → map (marked vs2) (ms ++ m ∷ []) ≡ map (marked vs) ms ++ Some v ∷ []
+some_cells vs vs2 ms v m h e last =
     let way : (vs2 ≡ vs) ⊎ (vs2 ≡ vs ++ v ∷ []) = rw e (insert_cases vs v) in
-    let old : map (marked vs2) ms ≡ map (marked vs) ms = kept_cells vs vs2 v ms h.within way in
-    let one : v ≡ k = value_same v k is in
-    let up : i + 1 ≡ suc i = omega arith in
-    let last : marked vs2 (i + 1) ≡ Some v = ap (marked vs2) up ∙ at ∙ ap (λ (u : Value). Some u) (sym one) in
-    let both : map (marked vs2) (ms ++ (i + 1) ∷ []) ≡ map (marked vs2) ms ++ marked vs2 (i + 1) ∷ [] = map-append (marked vs2) ms ((i + 1) ∷ []) in cc
+    let old : map (marked vs2) ms ≡ map (marked vs) ms = kept_cells vs vs2 v ms h way in
+    let both : map (marked vs2) (ms ++ m ∷ []) ≡ map (marked vs2) ms ++ marked vs2 m ∷ [] = map-append (marked vs2) ms (m ∷ []) in cc
 
-pub some_added : (vs vs2 : List Value) (ms : List ℕ) (v k : Value) (i : ℕ) → AreMarks vs ms → vs2 ≡ insert_key same vs v → slice_get vs2 i ≡ Some k → same v k ≡ true → IsDistinct same vs2 → length vs2 ≤ 4294967295 → AreMarks vs2 (ms ++ (i + 1) ∷ [])
-some_added vs vs2 ms v k i h e at is apart few =
+some_added : (vs vs2 : List Value) (ms : List ℕ) (v : Value) (m : ℕ) → AreMarks vs ms → vs2 ≡ insert_key same vs v → marked vs2 m ≡ Some v → AreNumbered vs2 → AreMarks vs2 (ms ++ m ∷ [])
+some_added vs vs2 ms v m h e last numbered =
     let way : (vs2 ≡ vs) ⊎ (vs2 ≡ vs ++ v ∷ []) = rw e (insert_cases vs v) in
     record {
-      within = within_push (length vs2) ms (i + 1) (kept_within vs vs2 v ms h.within way) (omega (arith, slice_get_within vs2 i k at));
-      values_are = e ∙ ap (λ (l : List Value). insert_key same l v) h.values_are ∙ sym (different_some (map (marked vs) ms) v) ∙ ap different (sym (some_cells vs vs2 ms v k i h e at is));
-      apart = apart;
-      few = few;
+      within = within_push (length vs2) ms m (kept_within vs vs2 v ms h.within way) (mark_within vs2 m v last);
+      values_are = e ∙ ap (λ (l : List Value). insert_key same l v) h.values_are ∙ sym (different_some (map (marked vs) ms) v) ∙ ap different (sym (some_cells vs vs2 ms v m h.within e last));
+      numbered = numbered;
     }
+
+-- a cell with its mark behind the others
+pub marked_cells : (vs vs2 : List Value) (ms : List ℕ) (cell : Option Value) (m : ℕ) → AreMarks vs ms → IsMarked vs cell vs2 m → map (marked vs2) (ms ++ m ∷ []) ≡ map (marked vs) ms ++ cell ∷ []
+marked_cells vs vs2 ms None m h is = rw is.0 (rw is.1 (map-append (marked vs) ms (0 ∷ [])))
+marked_cells vs vs2 ms (Some v) m h is = some_cells vs vs2 ms v m h.within is.0 is.1
+
+pub marked_added : (vs vs2 : List Value) (ms : List ℕ) (cell : Option Value) (m : ℕ) → AreMarks vs ms → IsMarked vs cell vs2 m → AreNumbered vs2 → AreMarks vs2 (ms ++ m ∷ [])
+marked_added vs vs2 ms None m h is numbered = rw is.0 (rw is.1 (none_added vs ms h))
+marked_added vs vs2 ms (Some v) m h is numbered = some_added vs vs2 ms v m h is.0 is.1 numbered
+
+-- the mark of a value that stands at a place
+pub stored_mark : (vs : List Value) (i : ℕ) (v k : Value) → slice_get vs i ≡ Some k → same v k ≡ true → marked vs (i + 1) ≡ Some v
+stored_mark vs i v k at is =
+    let one : v ≡ k = value_same v k is in
+    let up : i + 1 ≡ suc i = omega arith in
+    ap (marked vs) up ∙ at ∙ ap (λ (u : Value). Some u) (sym one)
+
+-- a value that is found is no new one
+pub found_mark : (vs : List Value) (i : ℕ) (v : Value) → position (same v) vs ≡ Some i → IsMarked vs (Some v) vs (i + 1)
+found_mark vs i v e =
+    let at = position-Some (same v) vs i v e in
+    let there : list_any (same v) vs ≡ true = list_any_at (same v) vs i v at.0 at.1 in
+    (sym (kept vs v there), stored_mark vs i v (get_or vs i v) (slice_get-get_or vs i v at.0) at.1)
+  where
+    kept : (ks : List Value) (k : Value) → list_any (same k) ks ≡ true → insert_key same ks k ≡ ks
+    kept ks k h = rw h refl
 
 -- the cell at a place
 pub cell_none : (vs : List Value) (ms : List ℕ) (p : ℕ) → p < length ms → get_or ms p 0 ≡ 0 → get_or (map (marked vs) ms) p None ≡ None
@@ -156,4 +183,4 @@ number_by vs cells i (Some v) e d lt is = sym (rw (← e) (position_is vs i v d 
 
 pub number_some : (vs : List Value) (ms : List ℕ) (p m : ℕ) → AreMarks vs ms → p < length ms → get_or ms p 0 ≡ m → 0 < m → Some (m - 1) ≡ option_and_then (number_among (map (marked vs) ms)) (get_or (map (marked vs) ms) p None)
 number_some vs ms p m h lt e pos =
-    number_by vs (map (marked vs) ms) (m - 1) (get_or (map (marked vs) ms) p None) h.values_are h.apart (omega (arith, within_at (length vs) ms p h.within lt, e)) (cell_some vs ms p m lt e pos)
+    number_by vs (map (marked vs) ms) (m - 1) (get_or (map (marked vs) ms) p None) h.values_are h.numbered.apart (omega (arith, within_at (length vs) ms p h.within lt, e)) (cell_some vs ms p m lt e pos)

@@ -12,10 +12,10 @@ use Rattle.mast_tables.specs.declared.declaration.RowKind.{RowKind}
 use Rattle.mast_terms.specs.declared.value.Value.{Value}
 use Rattle.mast_tables.specs.Breach.{IsRow, IsWrongAt, RecordBreach}
 use Rattle.mast_tables.specs.Cells.{AreCells, cells_in}
-use Rattle.mast_tables.specs.Reading.{Adds, TellsCells, TellsRow, at_cell}
+use Rattle.mast_tables.specs.Reading.{Adds, TellsCells, TellsRow}
 use Rattle.mast_tables.specs.Records.{Record}
 use Rattle.mast_tables.specs.Rows.{Row}
-use Rattle.mast_tables.specs.Typed.{IsCell, IsWrong, TellsCell}
+use Rattle.mast_tables.specs.Typed.{IsCell, IsWrong}
 
 -- so many cells of a record are read: what is left of it gives the whole
 pub record Begun (columns : List Column) (fields : Record) (i : ℕ) (old new : Cells) : Type 0 where
@@ -99,12 +99,3 @@ pub tells_row : (columns : List Column) (most number : ℕ) (fields : Record) (o
 tells_row columns most number fields old new (Ok done) le w h = (h.0, le, h.1, h.2)
 tells_row columns most number fields old new (Err (stop.Named breach)) le w h = (h.0, cell_breach columns most number fields breach.column breach.kind le w h.1)
 tells_row columns most number fields old new (Err stop.NoMemory) le w h = tt
-
--- what is wrong with the next cell is what is wrong with the record
-pub begun_stopped : (columns : List Column) (number : ℕ) (fields : Record) (i : ℕ) (old mid new : Cells) (column : Column) (cell other : List ℕ) (stopped : Stop RowKind)
-    → Begun columns fields i old mid
-    → drop i columns ≡ column ∷ drop (i + 1) columns → drop i fields ≡ cell ∷ drop (i + 1) fields
-    → TellsCell column other (Err stopped) → other ≡ cell → TellsCells columns number fields old new (Err (at_cell number (i + 1) stopped))
-begun_stopped columns number fields i old mid new column cell other (stop.Named wrong) b ec ef h e =
-    (refl, begun_wrong columns fields i old mid column cell wrong b ec ef (subst (λ (k : List ℕ). IsWrong column k wrong) e h))
-begun_stopped columns number fields i old mid new column cell other stop.NoMemory b ec ef h e = tt

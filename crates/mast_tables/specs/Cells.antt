@@ -1,7 +1,7 @@
 -- The cells of a table, by the numbers of their values.
 use Rattle.std.specs.Prelude.{◌≡◌, ℕ, zero, suc, ◌≤◌, Bool, List, [], ◌∷◌, Option, Some, None, map, length, slice_get}
 use Rattle.std.specs.List.{position, IsDistinct}
-use Rattle.indexmap.specs.IndexSet.{insert_all}
+use Rattle.indexmap.specs.IndexSet.{insert_all, insert_key}
 use Rattle.mast_terms.specs.declared.value.Value.{Value}
 use Rattle.mast_terms.specs.contracts.value.ValuePartialEq.TheImpl as value_eq
 use Rattle.mast_tables.specs.declared.cells.Cells.{Cells}
@@ -38,13 +38,22 @@ abbrev pub MarksWithin : ℕ → List ℕ → Type 0
 MarksWithin most [] = Unit {0}
 MarksWithin most (mark ∷ marks) = (mark ≤ most) × MarksWithin most marks
 
+-- the values have numbers: they differ, and are not too many
+pub record AreNumbered (values : List Value) : Type 0 where
+  pub apart : IsDistinct same values
+  pub few : length values ≤ 4294967295
+
 -- the marks have values, which are the cells' different values, in order
 pub record AreMarks (values : List Value) (marks : List ℕ) : Type 0 where
   pub within : MarksWithin (length values) marks
   pub values_are : values ≡ different (map (marked values) marks)
-  pub apart : IsDistinct same values
-  pub few : length values ≤ 4294967295
+  pub numbered : AreNumbered values
 
 -- the same of a table's cells
 abbrev pub AreCells : Cells → Type 0
 AreCells c = AreMarks c.values.keys c.marks.items
+
+-- the values have a cell's value too, and the mark says it
+abbrev pub IsMarked : List Value → Option Value → List Value → ℕ → Type 0
+IsMarked old None new mark = (new ≡ old) × (mark ≡ 0)
+IsMarked old (Some value) new mark = (new ≡ insert_key same old value) × (marked new mark ≡ Some value)

@@ -8,7 +8,6 @@ use Rattle.mast_terms.specs.declared.memory.Stop.TheVariants as stop
 use Rattle.mast_tables.specs.declared.cells.Cells.{Cells}
 use Rattle.mast_tables.specs.declared.declaration.Column.{Column}
 use Rattle.mast_tables.specs.declared.declaration.RowBreach.{RowBreach}
-use Rattle.mast_tables.specs.declared.declaration.RowKind.{RowKind}
 use Rattle.mast_tables.specs.Breach.{IsRow, AreRows, IsWrongAt, RecordBreach, RowsBreach}
 use Rattle.mast_tables.specs.Cells.{AreCells, cells_in}
 use Rattle.mast_tables.specs.Records.{Record}
@@ -24,11 +23,6 @@ HasNext (Some bytes) state (Some rest) state_after found fields = NextIs (next_r
 pub record Adds (old new : Cells) (row : Row) : Type 0 where
   pub cells : AreCells new
   pub added : cells_in new ≡ cells_in old ++ row
-
--- what is wrong with a cell, at its record and column
-abbrev pub at_cell : ℕ → ℕ → Stop RowKind → Stop RowBreach
-at_cell number column (stop.Named wrong) = stop.Named (record { number = number; column = column; kind = wrong })
-at_cell number column stop.NoMemory = stop.NoMemory
 
 -- the answer on the cells of the record with this number
 abbrev pub TellsCells : List Column → ℕ → Record → Cells → Cells → Result Unit (Stop RowBreach) → Type 0

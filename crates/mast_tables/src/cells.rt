@@ -1,19 +1,26 @@
 // The cells of a table, one after another, by the numbers of their values.
-ghost use Rattle.std.specs.Prelude.{◌≡◌, ◌<◌, ◌∷◌, ◌++◌, [], None, OnOk, length, get_or, option_copied, option_and_then};
-ghost use Rattle.mast_tables.specs.Cells.{AreCells, cells_in, number_among};
+ghost use Rattle.std.specs.Prelude.{◌≡◌, ◌<◌, ◌∷◌, ◌++◌, [], Some, None, IfOk, OnOk, length, get_or, option_copied, option_and_then};
+ghost use Rattle.std.specs.List.{position};
+ghost use Rattle.mast_terms.specs.declared.value.Value.TheVariants as v;
+ghost use Rattle.mast_tables.specs.Cells.{AreCells, AreNumbered, IsMarked, cells_in, number_among, same};
+ghost use Rattle.mast_tables.specs.Typed.{value_of};
 
+use crate::typed::Content;
 use indexmap::IndexSet;
-use mast_terms::{NoMemory, Value};
+use mast_terms::{NoMemory, Text, Value};
 use std::alloc::Global;
+use std::mem::replace;
 
 // There are at most so many different values.
 const MOST_NUMBERS: usize = 4294967295;
 
 // Each different value stands once. The mark of a cell is 0 where it is missing, or else its value's number and one.
+// A text is looked up in the buffer, and copied only where it is new.
 #[derive(Drop)]
 pub(crate) struct Cells {
     values: IndexSet<Value>,
     marks: Vec<u32>,
+    buffer: String,
 }
 
 impl Cells {
@@ -24,26 +31,74 @@ impl Cells {
         Cells {
             values: IndexSet::new(alloc),
             marks: Vec::new(alloc),
+            buffer: String::new(alloc),
         }
     }
 
     /// Adds a cell behind the others. After a want of memory the cells are of no use.
-    pub(crate) fn push(&mut self, cell: Option<Value>) -> Result<(), NoMemory>
+    pub(crate) fn push(&mut self, alloc: Global, content: Content<'_>) -> Result<(), NoMemory>
         requires { AreCells self.old }
-        ensures pushed { OnOk result (cells_in self.new ≡ cells_in self.old ++ cell ∷ []) }
+        ensures pushed { OnOk result (cells_in self.new ≡ cells_in self.old ++ value_of content.entry ∷ []) }
         ensures cells { OnOk result (AreCells self.new) }
     {
-        match cell {
-            None => self.marks.push(0)?,
-            Some(value) => {
-                let (number, _) = self.values.insert_full(value)?;
-                if self.values.len() > MOST_NUMBERS {
-                    return Err(NoMemory);
-                }
-                self.marks.push(number as u32 + 1)?;
-            }
-        }
+        let mark = self.mark(alloc, content)?;
+        self.marks.push(mark)?;
         Ok(())
+    }
+
+    // The mark of a cell. Its value goes behind the others where it is new.
+    fn mark(&mut self, alloc: Global, content: Content<'_>) -> Result<u32, NoMemory>
+        requires { AreNumbered self.old.values.keys }
+        ensures marked { IfOk result (IsMarked self.old.values.keys (value_of content.entry) self.new.values.keys) }
+        ensures numbered { OnOk result (AreNumbered self.new.values.keys) }
+        ensures same { OnOk result (self.new.marks ≡ self.old.marks) }
+    {
+        match content {
+            Content::Missing => Ok(0),
+            Content::Text(text) => self.mark_text(alloc, text),
+            Content::Other(value) => self.mark_value(value),
+        }
+    }
+
+    fn mark_text(&mut self, alloc: Global, text: &str) -> Result<u32, NoMemory>
+        requires { AreNumbered self.old.values.keys }
+        ensures marked { IfOk result (IsMarked self.old.values.keys (Some (v.Text text.now)) self.new.values.keys) }
+        ensures numbered { OnOk result (AreNumbered self.new.values.keys) }
+        ensures same { OnOk result (self.new.marks ≡ self.old.marks) }
+    {
+        match self.find_text(alloc, text)? {
+            Some(number) => Ok(number as u32 + 1),
+            None => self.mark_value(Value::Text(Text::from_str(alloc, text)?)),
+        }
+    }
+
+    fn mark_value(&mut self, value: Value) -> Result<u32, NoMemory>
+        requires { AreNumbered self.old.values.keys }
+        ensures marked { IfOk result (IsMarked self.old.values.keys (Some value) self.new.values.keys) }
+        ensures numbered { OnOk result (AreNumbered self.new.values.keys) }
+        ensures same { OnOk result (self.new.marks ≡ self.old.marks) }
+    {
+        let (number, _) = self.values.insert_full(value)?;
+        if self.values.len() > MOST_NUMBERS {
+            return Err(NoMemory);
+        }
+        Ok(number as u32 + 1)
+    }
+
+    // The number of a text that a cell has. The buffer comes back for the next one.
+    fn find_text(&mut self, alloc: Global, text: &str) -> Result<Option<usize>, NoMemory>
+        ensures found { IfOk result (λ found. found ≡ position (same (v.Text text.now)) self.old.values.keys) }
+        ensures same { OnOk result ((self.new.values ≡ self.old.values) × (self.new.marks ≡ self.old.marks)) }
+    {
+        let mut buffer = replace(&mut self.buffer, String::new(alloc));
+        buffer.clear();
+        buffer.push_str(text)?;
+        let key = Value::Text(Text::from_string(buffer));
+        let found = self.values.get_index_of(&key);
+        if let Value::Text(text) = key {
+            self.buffer = text.into_string();
+        }
+        Ok(found)
     }
 
     /// The value of the cell at a place, from 0.

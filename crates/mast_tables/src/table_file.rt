@@ -4,7 +4,7 @@ ghost use Rattle.csv.specs.Reading.{source_of, records_from, default_config, rea
 ghost use Rattle.csv.specs.Records.{fields_of};
 ghost use Rattle.mast_tables.specs.Breach.{DiffersAt, header_of, TellsFile};
 ghost use Rattle.mast_tables.specs.Cells.{AreCells, cells_in};
-ghost use Rattle.mast_tables.specs.Reading.{at_cell, TellsCells, TellsRow, TellsRecords, HasNext};
+ghost use Rattle.mast_tables.specs.Reading.{TellsCells, TellsRow, TellsRecords, HasNext};
 ghost use Rattle.mast_tables.specs.Records.{records_of, IsPlain};
 
 use crate::cells::Cells;
@@ -189,26 +189,18 @@ fn read_cells(
     ensures { TellsCells columns.now number (fields_of line.now) cells.old cells.new result }
 {
     for (i, column) in columns.iter().enumerate() {
-        match read_cell(alloc, field(line, i), column) {
-            Ok(cell) => cells.push(cell)?,
-            Err(stopped) => return Err(placed(number, i as u32 + 1, stopped)),
+        match read_cell(field(line, i), column) {
+            Ok(content) => cells.push(alloc, content)?,
+            Err(kind) => {
+                return Err(Stop::Named(RowBreach {
+                    number,
+                    column: i as u32 + 1,
+                    kind,
+                }));
+            }
         }
     }
     Ok(())
-}
-
-// The place of what is wrong with a cell.
-fn placed(number: u32, column: u32, stopped: Stop<RowKind>) -> Stop<RowBreach>
-    ensures { result ≡ at_cell number column stopped }
-{
-    match stopped {
-        Stop::Named(kind) => Stop::Named(RowBreach {
-            number,
-            column,
-            kind,
-        }),
-        Stop::NoMemory => Stop::NoMemory,
-    }
 }
 
 fn field(line: &ByteRecord, i: usize) -> &[u8]

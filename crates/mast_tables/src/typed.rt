@@ -4,59 +4,62 @@ ghost use Rattle.mast_terms.specs.declared.value.Kind.TheVariants as kind;
 ghost use Rattle.mast_tables.specs.Typed.{IsMissing, TellsCell};
 
 use crate::{Column, RowKind};
-use mast_terms::{Kind, Stop, Text, Value, read_date, read_int};
-use std::alloc::Global;
+use mast_terms::{Kind, Value, read_date, read_int};
 
-/// The value of a cell, None for a missing one, or what is wrong with it.
-pub(crate) fn read_cell(
-    alloc: Global,
-    cell: &[u8],
-    column: &Column,
-) -> Result<Option<Value>, Stop<RowKind>>
+/// What a cell holds. A text is lent by its record, so that no cell takes memory before it is known to be new.
+#[derive(Drop)]
+pub(crate) enum Content<'a> {
+    Missing,
+    Text(&'a str),
+    Other(Value),
+}
+
+/// What a cell holds, or what is wrong with it.
+pub(crate) fn read_cell<'a>(cell: &'a [u8], column: &Column) -> Result<Content<'a>, RowKind>
     ensures { TellsCell column.now cell.now result }
 {
     let text = match str::from_utf8(cell) {
         Ok(text) => text,
-        Err(_) => return Err(Stop::Named(RowKind::NotUtf8)),
+        Err(_) => return Err(RowKind::NotUtf8),
     };
     if cell.is_empty() && column.null {
-        return Ok(None);
+        return Ok(Content::Missing);
     }
     match column.kind {
-        Kind::Text => Ok(Some(Value::Text(Text::from_str(alloc, text)?))),
+        Kind::Text => Ok(Content::Text(text)),
         Kind::Integer => read_integer_cell(cell, column),
         Kind::Date => read_date_cell(cell, column),
     }
 }
 
 // A cell of an integer column that is not missing.
-fn read_integer_cell(cell: &[u8], column: &Column) -> Result<Option<Value>, Stop<RowKind>>
+fn read_integer_cell<'a>(cell: &'a [u8], column: &Column) -> Result<Content<'a>, RowKind>
     requires text { IsUtf8 cell.now }
     requires there { IsMissing column.now cell.now → ⊥ }
     requires kind { column.now.kind ≡ kind.Integer }
     ensures { TellsCell column.now cell.now result }
 {
     if cell.is_empty() {
-        return Err(Stop::Named(RowKind::Missing));
+        return Err(RowKind::Missing);
     }
     match read_int(cell) {
-        Ok(number) => Ok(Some(Value::Int(number))),
-        Err(_) => Err(Stop::Named(RowKind::BadInt)),
+        Ok(number) => Ok(Content::Other(Value::Int(number))),
+        Err(_) => Err(RowKind::BadInt),
     }
 }
 
 // A cell of a date column that is not missing.
-fn read_date_cell(cell: &[u8], column: &Column) -> Result<Option<Value>, Stop<RowKind>>
+fn read_date_cell<'a>(cell: &'a [u8], column: &Column) -> Result<Content<'a>, RowKind>
     requires text { IsUtf8 cell.now }
     requires there { IsMissing column.now cell.now → ⊥ }
     requires kind { column.now.kind ≡ kind.Date }
     ensures { TellsCell column.now cell.now result }
 {
     if cell.is_empty() {
-        return Err(Stop::Named(RowKind::Missing));
+        return Err(RowKind::Missing);
     }
     match read_date(cell) {
-        Ok(date) => Ok(Some(Value::Date(date))),
-        Err(_) => Err(Stop::Named(RowKind::BadDate)),
+        Ok(date) => Ok(Content::Other(Value::Date(date))),
+        Err(_) => Err(RowKind::BadDate),
     }
 }
