@@ -43,7 +43,7 @@ gives_no_date kind.Date cell (v.Text t) e none g = g
 gives_no_date kind.Date cell (v.Int n) e none g = g
 
 -- a cell that its column accepts is not wrong
-cell_fits : (column : Column) (cell : List ℕ) (value : Option Value) (wrong : RowKind) → IsCell column cell value → IsWrong column cell wrong → ⊥
+pub cell_fits : (column : Column) (cell : List ℕ) (value : Option Value) (wrong : RowKind) → IsCell column cell value → IsWrong column cell wrong → ⊥
 cell_fits column cell None row.NotUtf8 c w = w (subst IsUtf8 (sym c.1) IsUtf8-nil)
 cell_fits column cell None row.Missing c w = true≢false (sym c.0 ∙ w.1)
 cell_fits column cell None row.BadInt c w = w.1 c.1
@@ -73,7 +73,7 @@ fields_long (first ∷ columns) [] cells r = absurd r
 fields_long (first ∷ columns) (cell ∷ fields) [] r = absurd r
 fields_long (first ∷ columns) (cell ∷ fields) (value ∷ cells) r = let rest : length fields ≡ length columns = fields_long columns fields cells r.1 in omega arith
 
-record_fits : (columns : List Column) (most number : ℕ) (fields : Record) (cells : Row) (column : ℕ) (wrong : RowKind) → number ≤ most → IsRow columns fields cells → RecordBreach columns most number fields column wrong → ⊥
+pub record_fits : (columns : List Column) (most number : ℕ) (fields : Record) (cells : Row) (column : ℕ) (wrong : RowKind) → number ≤ most → IsRow columns fields cells → RecordBreach columns most number fields column wrong → ⊥
 record_fits columns most number fields cells column row.Rows le r b = let past : most < number = b.0 in absurd (omega arith)
 record_fits columns most number fields cells column row.Width le r b = b.1 (fields_long columns fields cells r)
 record_fits columns most number fields cells column row.Header le r b = b
@@ -88,7 +88,7 @@ rows_fit columns most number (fields ∷ records) [] breach le r b = r
 rows_fit columns most number (fields ∷ records) (cells ∷ rows) breach le r (inl b) = record_fits columns most number fields cells breach.column breach.kind (omega arith) r.0 b.1
 rows_fit columns most number (fields ∷ records) (cells ∷ rows) breach le r (inr b) = rows_fit columns most (number + 1) records rows breach (omega arith) r.1 b.3
 
-names_same : (from : ℕ) (names : Record) (column : ℕ) → DiffersAt from names names column → ⊥
+pub names_same : (from : ℕ) (names : Record) (column : ℕ) → DiffersAt from names names column → ⊥
 names_same from [] column d = d
 names_same from (name ∷ names) column (inl d) = d.0 refl
 names_same from (name ∷ names) column (inr d) = names_same (from + 1) names column d.1

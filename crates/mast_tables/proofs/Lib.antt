@@ -3,7 +3,9 @@ mod BreachLemmas
 pub mod CellsLemmas
 pub mod FieldLemmas
 pub mod HeaderLemmas
+mod JudgingLemmas
 mod NumberLemmas
+mod OnceLemmas
 pub mod ReadingLemmas
 pub mod RecordsLemmas
 pub mod RowsLemmas

@@ -1,5 +1,5 @@
 // Laws of the definitions that the contracts cite. No code calls them.
-ghost use Rattle.std.specs.Prelude.{ℕ, ◌≡◌, ◌↔◌, None, Some, List, IsSome, Contains};
+ghost use Rattle.std.specs.Prelude.{ℕ, ◌≡◌, ◌↔◌, ◌⊎◌, None, Some, List, IsSome, Contains};
 ghost use Rattle.csv.specs.Reading.{AreRecords, default_config, strip_bom};
 ghost use Rattle.csv.specs.declared.parser.State.TheVariants as st;
 ghost use Rattle.mast_tables.specs.Breach.{HasBreach, HasRows};
@@ -17,6 +17,13 @@ pub fn records_are_all()
 /// A file that has the rows of a table has no breach.
 pub fn rows_leave_no_breach()
     ensures { (columns : List Column) (most : ℕ) (records : List Record) (rows : List Row) (breach : RowBreach) → HasRows columns most records rows → HasBreach columns most records breach → ⊥ }
+{}
+
+/// Each file has the rows of a table or a breach, and has no other rows and no other breach.
+pub fn files_have_one_answer()
+    ensures some { (columns : List Column) (most : ℕ) (records : List Record) → ((rows : List Row) × HasRows columns most records rows) ⊎ ((breach : RowBreach) × HasBreach columns most records breach) }
+    ensures rows { (columns : List Column) (most : ℕ) (records : List Record) (rows other : List Row) → HasRows columns most records rows → HasRows columns most records other → rows ≡ other }
+    ensures breach { (columns : List Column) (most : ℕ) (records : List Record) (breach other : RowBreach) → HasBreach columns most records breach → HasBreach columns most records other → breach ≡ other }
 {}
 
 /// Two cells of a table have one number exactly where their values are equal, a cell has none exactly where it is missing,

@@ -14,6 +14,6 @@ mod tests;
 mod typed;
 
 pub use declaration::{Column, RowBreach, RowKind, TableDecl};
-pub use laws::{numbers_tell_values, records_are_all, rows_leave_no_breach};
+pub use laws::{files_have_one_answer, numbers_tell_values, records_are_all, rows_leave_no_breach};
 pub use table::Table;
 pub use table_file::load;
