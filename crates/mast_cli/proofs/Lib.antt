@@ -3,7 +3,9 @@ mod FactsLemmas
 mod FormLemmas
 mod LinesLemmas
 mod MappingLemmas
+mod OutcomeLemmas
 mod QueryLemmas
 mod TellingLemmas
+mod TextLemmas
 mod TokensLemmas
 mod WordsLemmas

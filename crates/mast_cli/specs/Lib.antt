@@ -4,6 +4,7 @@ pub mod Columns
 pub mod Endings
 pub mod Facts
 pub mod Headline
+pub mod Laws
 pub mod Lines
 pub mod LinesText
 pub mod MappingForm

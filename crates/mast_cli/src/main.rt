@@ -9,6 +9,7 @@ mod events;
 mod facts;
 mod items;
 mod judged;
+mod laws;
 mod mapping;
 mod query;
 mod stages;
