@@ -1,7 +1,8 @@
 -- The cells of marks, and the numbers of their values.
-use Rattle.std.proofs.Common.{◌≡◌, ◌⊎◌, inl, inr, ℕ, zero, suc, ◌+◌, ◌-◌, ◌<◌, ◌≤◌, Bool, true, false, not, cond, List, [], ◌∷◌, ◌++◌, map, length, get_or, refl, sym, ap, subst, ◌∙◌, true≢false, arith, if◌then◌else◌}
+use Rattle.std.proofs.Common.{◌≡◌, ◌⊎◌, inl, inr, ℕ, zero, suc, ◌+◌, ◌-◌, ◌*◌, ◌<◌, ◌≤◌, add-one, Bool, true, false, not, cond, List, [], ◌∷◌, ◌++◌, map, length, get_or, refl, sym, ap, subst, ◌∙◌, true≢false, arith, if◌then◌else◌}
 use Rattle.std.specs.Prelude.{Option, Some, None, slice_get, option_and_then}
 use Rattle.std.specs.List.{fold, position, position_or_len, list_any, IsDistinct, AllByRecursion}
+use Rattle.std.proofs.Math.Nat.{suc-mul}
 use Rattle.std.proofs.lemmas.List.{map-append, get_or-map, length_push}
 use Rattle.std.proofs.lemmas.List.Sums.{fold-append}
 use Rattle.std.proofs.lemmas.List.Folds.{list_any_at}
@@ -132,6 +133,12 @@ found_mark vs i v e =
   where
     kept : (ks : List Value) (k : Value) → list_any (same k) ks ≡ true → insert_key same ks k ≡ ks
     kept ks k h = rw h refl
+
+-- the place of a cell of a whole row
+pub place_inside : (row column width size : ℕ) → (row + 1) * width ≤ size → column < width → row * width + column < size
+place_inside row column width size le lt =
+    let up : (row + 1) * width ≡ suc row * width = ap (λ (k : ℕ). k * width) (add-one row) in
+    omega (arith, le, lt, up, suc-mul row width)
 
 -- the cell at a place
 pub cell_none : (vs : List Value) (ms : List ℕ) (p : ℕ) → p < length ms → get_or ms p 0 ≡ 0 → get_or (map (marked vs) ms) p None ≡ None

@@ -1,5 +1,5 @@
 -- Each file has rows or a breach.
-use Rattle.std.proofs.Common.{◌≡◌, ◌⊎◌, inl, inr, ℕ, ℤ, ◌+◌, ◌-◌, ◌*◌, ◌<◌, ◌≤◌, leb, eqb, Bool, true, false, List, [], ◌∷◌, length, get_or, refl, sym, subst, ◌∙◌, true≢false, arith, IsUtf8}
+use Rattle.std.proofs.Common.{◌≡◌, ◌⊎◌, inl, inr, ℕ, ℤ, ◌+◌, ◌-◌, ◌*◌, ◌<◌, ◌≤◌, leb, eqb, Bool, true, false, List, [], ◌∷◌, length, get_or, refl, sym, ◌∙◌, true≢false, arith, IsUtf8}
 use Rattle.std.specs.Prelude.{Option, Some, None, min}
 use Rattle.std.specs.Str.{bytes_eq, is_utf8}
 use Rattle.std.proofs.lemmas.Bool.Decides.{leb_tells, eqb_tells, not_from_Decides}

@@ -3,6 +3,7 @@ mod BreachLemmas
 pub mod CellsLemmas
 pub mod FieldLemmas
 pub mod HeaderLemmas
+pub mod MarksLemmas
 mod JudgingLemmas
 mod NumberLemmas
 mod OnceLemmas

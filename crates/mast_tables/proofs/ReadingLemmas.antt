@@ -11,7 +11,7 @@ use Rattle.mast_tables.specs.declared.declaration.Column.{Column}
 use Rattle.mast_tables.specs.declared.declaration.RowKind.{RowKind}
 use Rattle.mast_terms.specs.declared.value.Value.{Value}
 use Rattle.mast_tables.specs.Breach.{IsRow, IsWrongAt, RecordBreach}
-use Rattle.mast_tables.specs.Cells.{AreCells, cells_in}
+use Rattle.mast_tables.specs.Cells.{AreCells, cells_in, width_in}
 use Rattle.mast_tables.specs.Reading.{Adds, TellsCells, TellsRow}
 use Rattle.mast_tables.specs.Records.{Record}
 use Rattle.mast_tables.specs.Rows.{Row}
@@ -27,7 +27,7 @@ pub record Begun (columns : List Column) (fields : Record) (i : ℕ) (old new : 
 pub begun_none : (columns : List Column) (fields : Record) (c : Cells) → AreCells c → Begun columns fields 0 c c
 begun_none columns fields c cells = record {
   done = [];
-  adds = record { cells = cells; added = sym (append-nil (cells_in c)) };
+  adds = record { cells = cells; added = sym (append-nil (cells_in c)); wide = refl };
   rest = λ more h. h;
   wrong = λ column fault h. h;
 }
@@ -35,11 +35,11 @@ begun_none columns fields c cells = record {
 pub begun_more : (columns : List Column) (fields : Record) (i : ℕ) (old mid new : Cells) (column : Column) (cell : List ℕ) (value : Option Value)
     → Begun columns fields i old mid
     → drop i columns ≡ column ∷ drop (i + 1) columns → drop i fields ≡ cell ∷ drop (i + 1) fields
-    → IsCell column cell value → AreCells new → cells_in new ≡ cells_in mid ++ value ∷ []
+    → IsCell column cell value → AreCells new → cells_in new ≡ cells_in mid ++ value ∷ [] → width_in new ≡ width_in mid
     → Begun columns fields (i + 1) old new
-begun_more columns fields i old mid new column cell value b ec ef is cells added = record {
+begun_more columns fields i old mid new column cell value b ec ef is cells added wide = record {
   done = b.done ++ value ∷ [];
-  adds = record { cells = cells; added = added ∙ ap (λ (k : Row). k ++ value ∷ []) b.adds.added ∙ append_assoc (cells_in old) b.done (value ∷ []) };
+  adds = record { cells = cells; added = added ∙ ap (λ (k : Row). k ++ value ∷ []) b.adds.added ∙ append_assoc (cells_in old) b.done (value ∷ []); wide = wide ∙ b.adds.wide };
   rest = λ more h. rw (append_assoc b.done (value ∷ []) more) (b.rest (value ∷ more) (rw (ec, ef) (is, h)));
   wrong = λ n fault h. b.wrong n fault (rw (ec, ef) (inr (value, is, h)));
 }

@@ -2,8 +2,7 @@
 use Rattle.std.proofs.Common.{◌≡◌, ℕ, zero, suc, ◌+◌, ◌-◌, ◌*◌, ◌<◌, ◌≤◌, List, [], ◌∷◌, ◌++◌, length, get_or, take, drop, refl, sym, ap, subst, ◌∙◌, add-one, arith}
 use Rattle.std.specs.Prelude.{Option, None, option_and_then}
 use Rattle.std.proofs.lemmas.List.{drop-drop, take-append-drop, get_or-take, get_or-drop, length-take, length-drop, nil_from_length, take_all, take-append-le, drop-append-le}
-use Rattle.std.proofs.lemmas.Nat.{mul-add-lt}
-use Rattle.std.proofs.Math.Nat.{suc-mul, zero-mul, mul_comm}
+use Rattle.std.proofs.Math.Nat.{suc-mul, zero-mul, mul-le-mul_right}
 use Rattle.mast_terms.specs.declared.value.Value.{Value}
 use Rattle.mast_tables.specs.Rows.{Row, rows_of, cells_of, IsPlace, cell_at, number_at}
 use Rattle.mast_tables.specs.Cells.{number_among}
@@ -30,12 +29,11 @@ column_within w n cells row column p =
     let lt : row - 1 < n = omega (arith, p.row_from, p.row_to, length_rows w n cells) in
     omega (arith, p.column_to, ap length (row_at w n cells (row - 1) lt), length-take w (drop ((row - 1) * w) cells))
 
--- a place of the rows is one of the cells
-pub place_within : (w n : ℕ) (cells : List (Option Value)) (row column : ℕ) → length cells ≡ n * w → IsPlace (rows_of w n cells) row column → (row - 1) * w + (column - 1) < length cells
-place_within w n cells row column size p =
-    let lt : row - 1 < n = omega (arith, p.row_from, p.row_to, length_rows w n cells) in
-    let le : column - 1 < w = omega (arith, p.column_from, column_within w n cells row column p) in
-    omega (arith, size, mul_comm n w, mul-add-lt (row - 1) w (column - 1) n lt le)
+-- a place of the rows is in a whole row of the cells
+row_within : (w n : ℕ) (cells : List (Option Value)) (row column : ℕ) → length cells ≡ n * w → IsPlace (rows_of w n cells) row column → (row - 1 + 1) * w ≤ length cells
+row_within w n cells row column size p =
+    let le : row - 1 + 1 ≤ n = omega (arith, p.row_from, p.row_to, length_rows w n cells) in
+    omega (arith, size, mul-le-mul_right w le)
 
 -- and the cell is the one there
 pub cell_there : (w n : ℕ) (cells : List (Option Value)) (row column : ℕ) → IsPlace (rows_of w n cells) row column → get_or cells ((row - 1) * w + (column - 1)) None ≡ cell_at (rows_of w n cells) row column
@@ -56,8 +54,11 @@ module _ (w n : ℕ) (cells : List (Option Value)) (rows : List Row) (size : len
     own : IsPlace (rows_of w n cells) row column
     own = subst (λ (k : List Row). IsPlace k row column) (sym view) p
 
-    pub view_within : (row - 1) * w + (column - 1) < length cells
-    view_within = place_within w n cells row column size own
+    pub view_row : (row - 1 + 1) * w ≤ length cells
+    view_row = row_within w n cells row column size own
+
+    pub view_column : column - 1 < w
+    view_column = omega (arith, own.column_from, column_within w n cells row column own)
 
     pub view_cell : get_or cells ((row - 1) * w + (column - 1)) None ≡ cell_at rows row column
     view_cell = cell_there w n cells row column own ∙ ap (λ (k : List Row). cell_at k row column) view

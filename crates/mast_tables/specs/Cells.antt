@@ -29,9 +29,13 @@ abbrev pub marked : List Value → ℕ → Option Value
 marked values zero = None
 marked values (suc number) = slice_get values number
 
--- the cells that these marks say
+-- the cells that the marks say, of one row after another
 abbrev pub cells_in : Cells → List (Option Value)
-cells_in c = map (marked c.values.keys) c.marks.items
+cells_in c = map (marked c.values.keys) c.marks.list
+
+-- how many cells a row has
+abbrev pub width_in : Cells → ℕ
+width_in c = c.marks.width
 
 -- each mark is 0 or has a value
 abbrev pub MarksWithin : ℕ → List ℕ → Type 0
@@ -51,7 +55,7 @@ pub record AreMarks (values : List Value) (marks : List ℕ) : Type 0 where
 
 -- the same of a table's cells
 abbrev pub AreCells : Cells → Type 0
-AreCells c = AreMarks c.values.keys c.marks.items
+AreCells c = AreMarks c.values.keys c.marks.list
 
 -- the values have a cell's value too, and the mark says it
 abbrev pub IsMarked : List Value → Option Value → List Value → ℕ → Type 0

@@ -1,5 +1,6 @@
 pub mod Breach
 pub mod Cells
+pub mod Marks
 pub mod Reading
 pub mod Records
 pub mod Rows

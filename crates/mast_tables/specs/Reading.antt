@@ -9,7 +9,7 @@ use Rattle.mast_tables.specs.declared.cells.Cells.{Cells}
 use Rattle.mast_tables.specs.declared.declaration.Column.{Column}
 use Rattle.mast_tables.specs.declared.declaration.RowBreach.{RowBreach}
 use Rattle.mast_tables.specs.Breach.{IsRow, AreRows, IsWrongAt, RecordBreach, RowsBreach}
-use Rattle.mast_tables.specs.Cells.{AreCells, cells_in}
+use Rattle.mast_tables.specs.Cells.{AreCells, cells_in, width_in}
 use Rattle.mast_tables.specs.Records.{Record}
 use Rattle.mast_tables.specs.Rows.{Row}
 
@@ -23,6 +23,7 @@ HasNext (Some bytes) state (Some rest) state_after found fields = NextIs (next_r
 pub record Adds (old new : Cells) (row : Row) : Type 0 where
   pub cells : AreCells new
   pub added : cells_in new ≡ cells_in old ++ row
+  pub wide : width_in new ≡ width_in old
 
 -- the answer on the cells of the record with this number
 abbrev pub TellsCells : List Column → ℕ → Record → Cells → Cells → Result Unit (Stop RowBreach) → Type 0

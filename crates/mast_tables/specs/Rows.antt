@@ -2,7 +2,7 @@
 use Rattle.std.specs.Prelude.{◌≡◌, ℕ, zero, suc, ◌-◌, ◌*◌, ◌≤◌, List, [], ◌∷◌, ◌++◌, Option, None, length, take, drop, get_or, option_and_then}
 use Rattle.mast_terms.specs.declared.value.Value.{Value}
 use Rattle.mast_tables.specs.declared.cells.Cells.{Cells}
-use Rattle.mast_tables.specs.Cells.{number_among, cells_in, AreCells}
+use Rattle.mast_tables.specs.Cells.{number_among, cells_in, width_in, AreCells}
 
 -- a row of cells, each a value or missing
 abbrev pub Row : Type 0
@@ -37,7 +37,7 @@ number_of rows value = number_among (cells_of rows) value
 abbrev pub number_at : List Row → ℕ → ℕ → Option ℕ
 number_at rows row column = option_and_then (number_of rows) (cell_at rows row column)
 
--- so many rows of one width have these cells
-pub record IsGrid (count width : ℕ) (c : Cells) : Type 0 where
+-- so many rows have these cells
+pub record IsGrid (count : ℕ) (c : Cells) : Type 0 where
   pub cells : AreCells c
-  pub size : length (cells_in c) ≡ count * width
+  pub size : length (cells_in c) ≡ count * width_in c

@@ -1,10 +1,11 @@
-// The cells of a table, one after another, by the numbers of their values.
-ghost use Rattle.std.specs.Prelude.{◌≡◌, ◌<◌, ◌∷◌, ◌++◌, [], Some, None, IfOk, OnOk, length, get_or, option_copied, option_and_then};
+// The cells of a table, row by row, by the numbers of their values.
+ghost use Rattle.std.specs.Prelude.{◌≡◌, ◌+◌, ◌*◌, ◌<◌, ◌≤◌, ◌∷◌, ◌++◌, [], Some, None, IfOk, OnOk, length, get_or, option_copied, option_and_then};
 ghost use Rattle.std.specs.List.{position};
 ghost use Rattle.mast_terms.specs.declared.value.Value.TheVariants as v;
-ghost use Rattle.mast_tables.specs.Cells.{AreCells, AreNumbered, IsMarked, cells_in, number_among, same};
+ghost use Rattle.mast_tables.specs.Cells.{AreCells, AreNumbered, IsMarked, cells_in, width_in, number_among, same};
 ghost use Rattle.mast_tables.specs.Typed.{value_of};
 
+use crate::marks::Marks;
 use crate::typed::Content;
 use indexmap::IndexSet;
 use mast_terms::{NoMemory, Text, Value};
@@ -19,26 +20,30 @@ const MOST_NUMBERS: usize = 4294967295;
 #[derive(Drop)]
 pub(crate) struct Cells {
     values: IndexSet<Value>,
-    marks: Vec<u32>,
+    marks: Marks,
     buffer: String,
 }
 
 impl Cells {
-    pub(crate) fn new(alloc: Global) -> Cells
-        ensures none { cells_in result ≡ [] }
-        ensures cells { AreCells result }
+    /// No cell, of rows with so many.
+    pub(crate) fn new(alloc: Global, width: usize) -> Result<Cells, NoMemory>
+        ensures none { IfOk result (λ cells. cells_in cells ≡ []) }
+        ensures wide { IfOk result (λ cells. width_in cells ≡ width) }
+        ensures cells { IfOk result AreCells }
     {
-        Cells {
+        Ok(Cells {
             values: IndexSet::new(alloc),
-            marks: Vec::new(alloc),
+            marks: Marks::new(alloc, width)?,
             buffer: String::new(alloc),
-        }
+        })
     }
 
     /// Adds a cell behind the others. After a want of memory the cells are of no use.
     pub(crate) fn push(&mut self, alloc: Global, content: Content<'_>) -> Result<(), NoMemory>
-        requires { AreCells self.old }
+        requires cells { AreCells self.old }
+        requires wide { 0 < width_in self.old }
         ensures pushed { OnOk result (cells_in self.new ≡ cells_in self.old ++ value_of content.entry ∷ []) }
+        ensures wide { OnOk result (width_in self.new ≡ width_in self.old) }
         ensures cells { OnOk result (AreCells self.new) }
     {
         let mark = self.mark(alloc, content)?;
@@ -101,26 +106,28 @@ impl Cells {
         Ok(found)
     }
 
-    /// The value of the cell at a place, from 0.
-    pub(crate) fn value(&self, place: usize) -> Option<&Value>
+    /// The value of the cell of a whole row in a column. Both count from 0.
+    pub(crate) fn value(&self, row: usize, column: usize) -> Option<&Value>
         requires cells { AreCells self.now }
-        requires within { place < length (cells_in self.now) }
-        ensures { option_copied result ≡ get_or (cells_in self.now) place None }
+        requires row { (row + 1) * width_in self.now ≤ length (cells_in self.now) }
+        requires column { column < width_in self.now }
+        ensures { option_copied result ≡ get_or (cells_in self.now) (row * width_in self.now + column) None }
     {
-        let mark = self.marks[place];
+        let mark = self.marks.get(row, column);
         if mark == 0 {
             return None;
         }
         self.values.get_index(mark as usize - 1)
     }
 
-    /// The number of the value of the cell at a place, from 0.
-    pub(crate) fn number(&self, place: usize) -> Option<u32>
+    /// The number of that cell's value.
+    pub(crate) fn number(&self, row: usize, column: usize) -> Option<u32>
         requires cells { AreCells self.now }
-        requires within { place < length (cells_in self.now) }
-        ensures { result ≡ option_and_then (number_among (cells_in self.now)) (get_or (cells_in self.now) place None) }
+        requires row { (row + 1) * width_in self.now ≤ length (cells_in self.now) }
+        requires column { column < width_in self.now }
+        ensures { result ≡ option_and_then (number_among (cells_in self.now)) (get_or (cells_in self.now) (row * width_in self.now + column) None) }
     {
-        let mark = self.marks[place];
+        let mark = self.marks.get(row, column);
         if mark == 0 {
             return None;
         }

@@ -7,6 +7,7 @@
 mod cells;
 mod declaration;
 mod laws;
+mod marks;
 mod table;
 mod table_file;
 #[cfg(test)]

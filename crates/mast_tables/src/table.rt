@@ -1,5 +1,5 @@
 // Tables.
-ghost use Rattle.std.specs.Prelude.{◌≡◌, ◌+◌, ◌-◌, ◌*◌, ◌≤◌, ◌<◌, length, option_copied};
+ghost use Rattle.std.specs.Prelude.{◌≡◌, length, option_copied};
 ghost use Rattle.mast_tables.specs.Rows.{IsPlace, cell_at, number_at, number_of};
 
 use crate::cells::Cells;
@@ -11,20 +11,19 @@ use std::marker::Model;
 #[derive(Drop)]
 pub struct Table {
     pub(crate) count: u32,
-    pub(crate) width: u32,
     pub(crate) cells: Cells,
 }
 
 impl Model for Table {
     ghost use Rattle.std.specs.Prelude.{List};
     ghost use Rattle.mast_tables.specs.Rows.{Row, rows_of, IsGrid};
-    ghost use Rattle.mast_tables.specs.Cells.{cells_in};
+    ghost use Rattle.mast_tables.specs.Cells.{cells_in, width_in};
 
     ghost Value = { List Row };
 
-    ghost view = { λ t. rows_of t.width t.count (cells_in t.cells) };
+    ghost view = { λ t. rows_of (width_in t.cells) t.count (cells_in t.cells) };
 
-    ghost invariant = { λ t. IsGrid t.count t.width t.cells };
+    ghost invariant = { λ t. IsGrid t.count t.cells };
 }
 
 impl Table {
@@ -33,7 +32,7 @@ impl Table {
         requires { IsPlace self.now row column }
         ensures { option_copied result ≡ cell_at self.now row column }
     {
-        self.cells.value(place(self.width, row, column))
+        self.cells.value(row as usize - 1, column as usize - 1)
     }
 
     /// How many rows there are.
@@ -49,7 +48,7 @@ impl Table {
         requires { IsPlace self.now row column }
         ensures { result ≡ number_at self.now row column }
     {
-        self.cells.number(place(self.width, row, column))
+        self.cells.number(row as usize - 1, column as usize - 1)
     }
 
     /// The number that the cells with this value have. None comes exactly where no cell has it.
@@ -58,13 +57,4 @@ impl Table {
     {
         self.cells.find(value)
     }
-}
-
-// The place of a cell among all cells, row by row.
-fn place(width: u32, row: u32, column: u32) -> usize
-    requires row { 1 ≤ row }
-    requires column { 1 ≤ column }
-    ensures { result ≡ (row - 1) * width + (column - 1) }
-{
-    (row as usize - 1) * (width as usize) + (column as usize - 1)
 }

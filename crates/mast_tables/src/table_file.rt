@@ -3,7 +3,7 @@ ghost use Rattle.std.specs.Prelude.{◌≡◌, ◌<◌, ◌≤◌, ◌+◌, ◌+
 ghost use Rattle.csv.specs.Reading.{source_of, records_from, default_config, reader_state};
 ghost use Rattle.csv.specs.Records.{fields_of};
 ghost use Rattle.mast_tables.specs.Breach.{DiffersAt, header_of, TellsFile};
-ghost use Rattle.mast_tables.specs.Cells.{AreCells, cells_in};
+ghost use Rattle.mast_tables.specs.Cells.{AreCells, cells_in, width_in};
 ghost use Rattle.mast_tables.specs.Reading.{TellsCells, TellsRow, TellsRecords, HasNext};
 ghost use Rattle.mast_tables.specs.Records.{records_of, IsPlain};
 
@@ -127,20 +127,15 @@ fn read_rows<R: Read>(
     requires plain { IsPlain reader.old }
     ensures { IfSome (source_of R.remaining reader.old) (λ bytes. TellsRecords columns.now most (records_from default_config turns (reader_state reader.old) bytes) result) }
 {
-    let mut cells = Cells::new(alloc);
+    let mut cells = Cells::new(alloc, columns.len())?;
     for row in 0..turns {
         if !next(reader, line)? {
-            return Ok(Table {
-                count: row,
-                width: columns.len() as u32,
-                cells,
-            });
+            return Ok(Table { count: row, cells });
         }
         read_row(alloc, line, columns, most, row + 1, &mut cells)?;
     }
     Ok(Table {
         count: turns,
-        width: columns.len() as u32,
         cells,
     })
 }
@@ -156,6 +151,7 @@ fn read_row(
 ) -> Result<(), Stop<RowBreach>>
     requires columns { length columns.now < 4294967295 }
     requires cells { AreCells cells.old }
+    requires wide { width_in cells.old ≡ length columns.now }
     ensures { TellsRow columns.now most number (fields_of line.now) cells.old cells.new result }
 {
     if number > most {
@@ -186,6 +182,7 @@ fn read_cells(
     requires columns { length columns.now < 4294967295 }
     requires width { length (fields_of line.now) ≡ length columns.now }
     requires cells { AreCells cells.old }
+    requires wide { width_in cells.old ≡ length columns.now }
     ensures { TellsCells columns.now number (fields_of line.now) cells.old cells.new result }
 {
     for (i, column) in columns.iter().enumerate() {

@@ -25,7 +25,7 @@ loop-i-preserved c =
     let i = c.loop-i.i in
     let lt : c.loop-i.i < length c.args.columns.now = omega arith in
     let ef = drop_more fields i [] (omega (arith, c.requires.width)) in
-    begun_more columns fields i _ _ _ c.index-columns-i.result (get_or fields i []) (value_of c.in-Ok.content) c.loop-i.invariant (column_at columns i c.index-columns-i.result lt c.index-columns-i.is) ef (rw c.field.ensures at c.in-Ok.ensures) c.in_ok-push-in-Ok.ensures.cells c.in_ok-push-in-Ok.ensures.pushed
+    begun_more columns fields i _ _ _ c.index-columns-i.result (get_or fields i []) (value_of c.in-Ok.content) c.loop-i.invariant (column_at columns i c.index-columns-i.result lt c.index-columns-i.is) ef (rw c.field.ensures at c.in-Ok.ensures) c.in_ok-push-in-Ok.ensures.cells c.in_ok-push-in-Ok.ensures.pushed c.in_ok-push-in-Ok.ensures.wide
 
 pub returns : goal.returns
 returns c =

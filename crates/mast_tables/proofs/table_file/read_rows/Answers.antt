@@ -1,4 +1,4 @@
-use Rattle.std.proofs.Common.{◌+◌, ◌-◌, arith}
+use Rattle.std.proofs.Common.{◌+◌, ◌-◌, ◌∙◌, arith}
 use Rattle.std.proofs.lemmas.Option.{IfSome_then}
 use Rattle.csv.specs.Reading.{source_of, reader_state}
 use Rattle.csv.specs.Records.{fields_of}
@@ -10,9 +10,9 @@ returns-then-not-branch g c =
     let loop = c.loop-row in
     let rem = g.R.Read.remaining in
     let h = rw c.if-not-branch.true at c.in_ok-next.ensures.read in
-    IfSome_then (source_of rem c.args.reader.now) loop.invariant.told (λ bytes l.
+    rw loop.invariant.wide (IfSome_then (source_of rem c.args.reader.now) loop.invariant.told (λ bytes l.
     passes_end (source_of rem loop.reader) (source_of rem c.next.new.reader) (reader_state loop.reader) (reader_state c.next.new.reader)
-    c.args.columns.now c.args.most loop.row (c.args.turns - loop.row) (c.args.turns - loop.row - 1) (fields_of c.next.new.line) loop.cells _ (omega arith) h l)
+    c.args.columns.now c.args.most loop.row (c.args.turns - loop.row) (c.args.turns - loop.row - 1) (fields_of c.next.new.line) loop.cells _ (omega arith) h l))
 
 pub returns-in_err-read_row : goal.returns-in_err-read_row
 returns-in_err-read_row g c =
@@ -35,6 +35,7 @@ loop-row-preserved g c =
     record {
       plain = c.in_ok-next.ensures.plain;
       cells = r.3.cells;
+      wide = r.3.wide ∙ loop.invariant.wide;
       size = size_more columns fields loop.cells c.read_row.new.cells loop.row r.0 r.2 r.3.added loop.invariant.size;
       told = IfSome_then (source_of rem c.args.reader.now) loop.invariant.told (λ bytes l.
           passes_more (source_of rem loop.reader) (source_of rem c.next.new.reader) (reader_state loop.reader) (reader_state c.next.new.reader)
@@ -45,5 +46,5 @@ pub returns : goal.returns
 returns g c =
     let loop = c.loop-row in
     let rem = g.R.Read.remaining in
-    IfSome_then (source_of rem c.args.reader.now) loop.invariant.told (λ bytes l.
-    passes_out (source_of rem loop.reader) (reader_state loop.reader) c.args.columns.now c.args.most loop.row (c.args.turns - loop.row) c.args.turns loop.cells _ (omega arith) (omega arith) l)
+    rw loop.invariant.wide (IfSome_then (source_of rem c.args.reader.now) loop.invariant.told (λ bytes l.
+    passes_out (source_of rem loop.reader) (reader_state loop.reader) c.args.columns.now c.args.most loop.row (c.args.turns - loop.row) c.args.turns loop.cells _ (omega arith) (omega arith) l))

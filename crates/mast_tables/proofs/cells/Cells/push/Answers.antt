@@ -5,9 +5,9 @@ use Rattle.mast_tables.proofs.cells.Cells.push.Goals as goal
 pub returns-clause-pushed : goal.returns-clause-pushed
 returns-clause-pushed c =
     let e = c.in_ok-mark.ensures in
-    rw (c.in_ok-push.ensures.items, e.same) (marked_cells _ _ _ (value_of c.args.content) _ c.requires e.marked)
+    rw (c.in_ok-push.ensures.list, e.same) (marked_cells _ _ _ (value_of c.args.content) _ c.requires.cells e.marked)
 
 pub returns-clause-cells : goal.returns-clause-cells
 returns-clause-cells c =
     let e = c.in_ok-mark.ensures in
-    rw (c.in_ok-push.ensures.items, e.same) (marked_added _ _ _ (value_of c.args.content) _ c.requires e.marked e.numbered)
+    rw (c.in_ok-push.ensures.list, e.same) (marked_added _ _ _ (value_of c.args.content) _ c.requires.cells e.marked e.numbered)
