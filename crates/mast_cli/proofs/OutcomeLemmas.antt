@@ -1,5 +1,5 @@
 -- Words and contents have one outcome at most.
-use Rattle.std.proofs.Common.{◌≡◌, ◌≤◌, ◌<◌, ◌⊎◌, inl, inr, ℕ, List, [], Option, Some, None, length, subst, sym, ap, ◌∙◌, refl, map, arith}
+use Rattle.std.proofs.Common.{◌≡◌, ◌-◌, inl, inr, ℕ, List, [], Option, Some, None, subst, sym, ap, ◌∙◌, refl, arith}
 use Rattle.std.specs.Prelude.{get_or}
 use Rattle.mast_tree.specs.declared.item.DocName.TheVariants as doc
 use Rattle.mast_tree.specs.declared.item.Item.{Item}
@@ -8,7 +8,6 @@ use Rattle.mast_tree.specs.Source.{AreTokens}
 use Rattle.mast_tree.specs.Trees.{IsTree, IsTreeBreach}
 use Rattle.mast_tree.proofs.LawLemmas.{has_one_tree}
 use Rattle.mast_tree.proofs.TokenLawLemmas.{has_one_reading}
-use Rattle.mast_tables.specs.Breach.{HasRows, HasBreach}
 use Rattle.mast_tables.specs.Records.{records_of}
 use Rattle.mast_tables.specs.Rows.{Row}
 use Rattle.mast_tables.specs.declared.declaration.TableDecl.{TableDecl}
@@ -18,15 +17,14 @@ use Rattle.mast_files.specs.Outside.{Contents}
 use Rattle.mast_terms.specs.declared.term.Term.TheVariants as t
 use Rattle.mast_cli.specs.declared.mapping.Mapping.{Mapping}
 use Rattle.mast_cli.specs.declared.status.Status.{Status}
-use Rattle.mast_cli.specs.declared.status.Status.TheVariants as st
 use Rattle.mast_cli.specs.Endings.{IsOf}
-use Rattle.mast_cli.specs.Facts.{Fact, cells_in, fact_of, AllRows, IsFactWithin, IsFactLine, Supports}
+use Rattle.mast_cli.specs.Facts.{Fact, cells_in, IsFactLine, Supports}
 use Rattle.mast_cli.specs.Laws.{OneOutcome}
 use Rattle.mast_cli.specs.Lines as lines
 use Rattle.mast_cli.specs.Lines.{Event}
 use Rattle.mast_cli.specs.MappingForm.{Said, said}
 use Rattle.mast_cli.specs.Mappings.{IsForm}
-use Rattle.mast_cli.specs.Outcome.{Declares, DocumentEvent, MappingsEvent, HasMapping, RecordsEvent, TableEvent, HasTable, RowsOutcome, FactsOutcome, Outcome, most_mapping_bytes, most_table_bytes, most_rows}
+use Rattle.mast_cli.specs.Outcome.{Declares, DocumentEvent, MappingsEvent, HasMapping, TableEvent, HasTable, RowsOutcome, FactsOutcome, most_rows}
 use Rattle.mast_cli.specs.Words.{task_of}
 use Rattle.mast_cli.proofs.FormLemmas.{one_said}
 use Rattle.mast_cli.proofs.TextLemmas.{one_text}
