@@ -1,5 +1,5 @@
--- What contracts see of the files and sinks in memory.
-use Rattle.std.specs.Prelude.{ℕ, ◌+◌, ◌-◌, ◌^◌, min, nat_eq, Bool, List, Option}
+-- What contracts see of the files and sinks in memory, and of those of the machine.
+use Rattle.std.specs.Prelude.{ℕ, ◌+◌, ◌-◌, ◌^◌, min, nat_eq, Bool, List, Option, Some, None}
 use Rattle.std.specs.List.{list_any}
 
 -- one more, up to the end of a counter of 64 bits
@@ -42,3 +42,22 @@ pub record MemSinkState : Type 0 where
 pub record SoundSinkState : Type 0 where
   pub written : Option (List ℕ)
   pub room : ℕ
+
+-- what an open file has left, where it tells it
+abbrev pub left_of : {File : Type 0} → (File → Option (List ℕ)) → Option File → Option (List ℕ)
+left_of told None = None
+left_of told (Some file) = told file
+
+-- a `DirFiles`: whether a file is open and what it has left, where it tells it;
+-- the name of the started file, whether a call on it has failed, and the faults so far
+pub record DirFilesState : Type 0 where
+  pub is_open : Bool
+  pub rest : Option (List ℕ)
+  pub current : Option (List ℕ)
+  pub failed : Bool
+  pub faults : ℕ
+
+-- a `StdSink`: how many bytes standard output took, and the faults so far
+pub record StdSinkState : Type 0 where
+  pub taken : ℕ
+  pub faults : ℕ

@@ -1,9 +1,9 @@
--- What one call does to files and sinks in memory.
-use Rattle.std.specs.Prelude.{◌≡◌, ℕ, ◌+◌, ◌-◌, min, Bool, true, false, if◌then◌else◌, not, ◌&&◌, nat_lt, nat_le, List, ◌++◌, length, take, drop, Option, Some, None, Result, Ok, Err}
+-- What one call does to the files and sinks.
+use Rattle.std.specs.Prelude.{◌≡◌, ℕ, ◌+◌, ◌-◌, ◌^◌, min, Bool, true, false, if◌then◌else◌, not, ◌&&◌, nat_lt, nat_le, List, ◌++◌, length, take, drop, Option, Some, None, Result, Ok, Err}
 use Rattle.mast_terms.specs.declared.memory.Stop.{Stop}
 use Rattle.mast_terms.specs.declared.memory.Stop.TheVariants as stop
 use Rattle.mast_files.specs.declared.outside.Failed.{Failed}
-use Rattle.mast_files.specs.States.{next_count, is_failing, MemFilesState, SoundFilesState, MemSinkState, SoundSinkState}
+use Rattle.mast_files.specs.States.{next_count, is_failing, MemFilesState, SoundFilesState, MemSinkState, SoundSinkState, DirFilesState, StdSinkState}
 use Rattle.mast_files.specs.Stored.{content_of, holds}
 
 -- whether a `MemFiles` starts this name: the call's number is none that fails, and the name is held
@@ -70,3 +70,19 @@ told_within room (Some written) piece = if nat_le (length written + length piece
 abbrev pub PutsSoundly : SoundSinkState → List ℕ → Result ℕ Failed → SoundSinkState → Type 0
 PutsSoundly old piece (Ok n) new = (n ≡ length piece) × (new ≡ record old { written = told_within old.room old.written piece })
 PutsSoundly old piece (Err e) new = ⊥
+
+-- A start opens a file, or leaves none open and counts one fault. Want of memory changes nothing.
+abbrev pub StartsInFolder : {T : Type 0} → DirFilesState → List ℕ → Result T (Stop Failed) → DirFilesState → Type 0
+StartsInFolder old name (Ok x) new = new ≡ record { is_open = true; rest = new.rest; current = Some name; failed = false; faults = old.faults }
+StartsInFolder old name (Err (stop.Named e)) new = new ≡ record { is_open = false; rest = None; current = Some name; failed = true; faults = next_count old.faults }
+StartsInFolder old name (Err stop.NoMemory) new = new ≡ old
+
+-- A read gives bytes of an open file. One that fails counts one fault, and fails where no file is open.
+abbrev pub ReadsInFolder : DirFilesState → Result ℕ Failed → DirFilesState → Type 0
+ReadsInFolder old (Ok n) new = (old.is_open ≡ true) × (new ≡ record old { rest = new.rest })
+ReadsInFolder old (Err e) new = new ≡ record old { rest = new.rest; failed = true; faults = next_count old.faults }
+
+-- A put tells just the bytes that standard output took. One that fails counts one fault.
+abbrev pub PutsOut : StdSinkState → Result ℕ Failed → StdSinkState → Type 0
+PutsOut old (Ok n) new = new ≡ record old { taken = min (old.taken + n) (2 ^ 64 - 1) }
+PutsOut old (Err e) new = new ≡ record old { faults = next_count old.faults }
