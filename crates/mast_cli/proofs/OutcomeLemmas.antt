@@ -108,17 +108,17 @@ table_event_or_rows table content rows status text (inr h) g = let a = h.1 in fi
 
 supports_moved : (a b : Mapping) → said a ≡ said b → (row : Row) (fact : Fact) → Supports a row fact → Supports b row fact
 supports_moved a b e row fact h = record {
-    args = h.args;
-    cells = ap (λ (s : Said). cells_in s.slots row) (sym e) ∙ h.cells;
-    is = h.is ∙ ap (λ (s : Said). let f : Fact = record { class = s.class; object = t.Object (record { symbol = s.symbol; args = h.args }) } in f) e;
-  }
+  args = h.args;
+  cells = ap (λ (s : Said). cells_in s.slots row) (sym e) ∙ h.cells;
+  is = h.is ∙ ap (λ (s : Said). let f : Fact = record { class = s.class; object = t.Object (record { symbol = s.symbol; args = h.args }) } in f) e;
+}
 
 line_moved : (a b : Mapping) (rows : List Row) → said a ≡ said b → (line : List ℕ) → IsFactLine a rows line → IsFactLine b rows line
 line_moved a b rows e line h = record {
-    fact = h.fact;
-    given = record { row = h.given.row; member = h.given.member; from = h.given.from; to = h.given.to; supports = supports_moved a b e (get_or rows (h.given.row - 1) []) h.fact h.given.supports };
-    is = h.is;
-  }
+  fact = h.fact;
+  given = record { row = h.given.row; member = h.given.member; from = h.given.from; to = h.given.to; supports = supports_moved a b e (get_or rows (h.given.row - 1) []) h.fact h.given.supports };
+  is = h.is;
+}
 
 one_rows_outcome : (a b : Mapping) (content : List ℕ) (status other : Status) (text next : List ℕ) → said a ≡ said b → RowsOutcome a content status text → RowsOutcome b content other next → Same status text other next
 one_rows_outcome a b content status other text next e (inl h) (inl g) =
@@ -129,12 +129,13 @@ one_rows_outcome a b content status other text next e (inr h) (inl g) =
     absurd (table_event_or_rows a.table content h.0 other next (subst (λ t. TableEvent t content other next) (ap (λ (s : Said). s.table) (sym e)) g) h.1)
 one_rows_outcome a b content status other text next e (inr h) (inr g) =
     let there = subst (λ t. HasTable t content g.0) (ap (λ (s : Said). s.table) (sym e)) g.1 in
-    let rows = file_rows_once a.table.columns most_rows (records_of content) h.0 g.0 h.1.1 there.1 in
-    ( h.2 ∙ sym g.2,
+    let rows = file_rows_once a.table.columns most_rows (records_of content) h.0 g.0 h.1.1 there.1 in (
+      h.2 ∙ sym g.2,
       one_text (IsFactLine a h.0) (IsFactLine b g.0) text next
-        (λ l x. line_moved a b g.0 e l (subst (λ rs. IsFactLine a rs l) rows x))
-        (λ l x. subst (λ rs. IsFactLine a rs l) (sym rows) (line_moved b a g.0 (sym e) l x))
-        h.3 g.3 )
+          (λ l x. line_moved a b g.0 e l (subst (λ rs. IsFactLine a rs l) rows x))
+          (λ l x. subst (λ rs. IsFactLine a rs l) (sym rows) (line_moved b a g.0 (sym e) l x))
+          h.3 g.3,
+    )
 
 -- the run
 

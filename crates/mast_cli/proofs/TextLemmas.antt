@@ -61,8 +61,8 @@ same_lines (x ∷ xs) (y ∷ ys) s t to from =
     let y_there = from y (first_in y ys) in
     let e = same_first x y xs ys s.0 t.0 (first_or_later y x ys x_there.0 x_there.1 x_there.2) (first_or_later x y xs y_there.0 y_there.1 y_there.2) in
     let rest = same_lines xs ys s.1 t.1
-      (λ l h. let there = to l (later_in x l xs h) in rest_in x y xs ys e s.0 l h (first_or_later y l ys there.0 there.1 there.2))
-      (λ l h. let there = from l (later_in y l ys h) in rest_in y x ys xs (sym e) t.0 l h (first_or_later x l xs there.0 there.1 there.2)) in
+    (λ l h. let there = to l (later_in x l xs h) in rest_in x y xs ys e s.0 l h (first_or_later y l ys there.0 there.1 there.2))
+    (λ l h. let there = from l (later_in y l ys h) in rest_in y x ys xs (sym e) t.0 l h (first_or_later x l xs there.0 there.1 there.2)) in
     ap (λ z. z ∷ xs) e ∙ ap (λ zs. y ∷ zs) rest
 
 -- a set of lines has one text

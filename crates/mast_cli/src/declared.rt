@@ -83,11 +83,7 @@ fn add_name(names: &mut IndexSet<Vec<u8>>, alloc: Global, name: &[u8]) -> Result
 }
 
 /// `NAME "FILE" COLUMN ..`, with one column or more.
-pub fn read_table(
-    alloc: Global,
-    doc: &Doc<'_>,
-    items: &[Item],
-) -> Result<Declared, Stop<Unbuilt>>
+pub fn read_table(alloc: Global, doc: &Doc<'_>, items: &[Item]) -> Result<Declared, Stop<Unbuilt>>
     ensures { Answers result (λ table. AreTokens doc.now.source.now doc.now.tokens.now → form.table_in doc.now.source.now doc.now.tokens.now items.now ≡ Some table) (λ _. AreTokens doc.now.source.now doc.now.tokens.now → form.table_in doc.now.source.now doc.now.tokens.now items.now ≡ None) }
 {
     match items {

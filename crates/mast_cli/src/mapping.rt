@@ -268,4 +268,3 @@ fn slot_number(
         }
     }
 }
-
