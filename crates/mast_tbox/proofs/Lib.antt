@@ -1,0 +1,9 @@
+pub mod MemberLemmas
+pub mod EqualityLemmas
+pub mod WorkLemmas
+pub mod OnceLemmas
+pub mod BelowLemmas
+pub mod StepLemmas
+pub mod IndexLemmas
+pub mod NumberLemmas
+pub mod SortedLemmas

@@ -1,0 +1,9 @@
+use Rattle.std.proofs.Common.{ap, ◌∙◌}
+use Rattle.mast_tbox.specs.Inclusions.{directly_below, leading_to}
+use Rattle.mast_tbox.proofs.normal_inclusions.normal.Goals as goal
+
+pub invariant_of-result : goal.invariant_of-result
+invariant_of-result c = record {
+  concepts_below = λ b. c.in_ok-concepts.ensures b ∙ ap (λ w. directly_below w b) c.deref.ensures.value;
+  props_below = λ p. c.in_ok-props.ensures p ∙ ap (λ w. leading_to w p) c.deref-2.ensures.value;
+}

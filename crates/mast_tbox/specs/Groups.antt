@@ -1,0 +1,24 @@
+-- What a key has, and what it has after an item was added.
+use Rattle.std.specs.Prelude.{◌≡◌, List, [], Option, Some, None, Bool, if◌then◌else◌}
+use Rattle.indexmap.specs.IndexMap.{get}
+use Rattle.indexmap.specs.IndexSet.{insert_key}
+use Rattle.mast_tbox.specs.declared.groups.Groups.{Groups}
+use Rattle.mast_tbox.specs.declared.expression.Basic.{Basic}
+use Rattle.mast_tbox.specs.declared.expression.Prop.{Prop}
+use Rattle.mast_tbox.specs.declared.axiom.Inclusion.{Inclusion}
+use Rattle.mast_tbox.specs.Expressions.{same_basic, same_prop}
+use Rattle.mast_tbox.specs.Inclusions.{directly_below, leading_to}
+
+module _ {T : Type 0} (eq : T → T → Bool) where
+  -- the items of a key
+  abbrev pub found : Groups T → T → List T
+  found g k = elim (get eq g.map k) [ None ↦ [] | Some s ↦ s.keys ]
+
+  -- the items of a key after one was added to those of another
+  abbrev pub put : Groups T → T → T → T → List T
+  put g key item k = if eq key k then insert_key eq (found g key) item else found g k
+
+-- the groups are the indices of inclusions by their right sides
+pub record IsIndex (tbox : List Inclusion) (concepts : Groups Basic) (props : Groups Prop) : Type 0 where
+  pub concepts_below : (b : Basic) → found same_basic concepts b ≡ directly_below tbox b
+  pub props_below : (p : Prop) → found same_prop props p ≡ leading_to tbox p

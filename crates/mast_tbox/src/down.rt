@@ -1,0 +1,101 @@
+//! What is below an atom.
+ghost use Rattle.std.specs.Prelude.{◌≡◌, ◌↔◌, map, Contains, IfOk, OnOk};
+ghost use Rattle.indexmap.specs.IndexSet.{insert_all};
+ghost use Rattle.mast_cq.specs.declared.atom.Atom.{Atom};
+ghost use Rattle.mast_cq.specs.NormalForms.{Ordered};
+ghost use Rattle.mast_tbox.specs.Closure.{Down, steps_of, if_blank};
+ghost use Rattle.mast_tbox.specs.Expressions.{at, pair};
+
+use crate::{Basic, NormalTBox, Prop, RoleExpr};
+use indexmap::IndexSet;
+use mast_cq::{Arg, Atom, atom_laws};
+use mast_terms::{List, NoMemory};
+use std::alloc::Global;
+
+impl NormalTBox {
+    /// `Down` of an atom: the least set of atoms that holds it and is closed under the steps by inclusions. The atoms come
+    /// in their order, each once.
+    ///
+    /// A step looks up the right side that it needs, so the work is that of the atoms given and of their order.
+    pub fn down(&self, alloc: Global, atom: Atom) -> Result<List<Atom>, NoMemory>
+        ensures exact { IfOk result (λ list. (h : Atom) → Contains list h ↔ Down self.now atom h) }
+        ensures order { IfOk result Ordered }
+    {
+        atom_laws();
+        let mut set = self.reached(alloc, atom)?;
+        set.sort()?;
+        listed(alloc, set.as_slice())
+    }
+
+    // The atoms in the order in which they are reached.
+    fn reached(&self, alloc: Global, atom: Atom) -> Result<IndexSet<Atom>, NoMemory>
+        ensures { IfOk result (λ set. (h : Atom) → Contains set.keys h ↔ Down self.now atom h) }
+    {
+        atom_laws();
+        let mut set = IndexSet::new(alloc);
+        set.insert(atom)?;
+        for done in 0..usize::MAX {
+            let next = match set.get_index(done) {
+                Some(next) => *next,
+                None => return Ok(set),
+            };
+            self.add_steps(&mut set, next)?;
+        }
+        let _count = set.len();
+        Ok(set)
+    }
+
+    // Adds what the steps on an atom give.
+    fn add_steps(&self, set: &mut IndexSet<Atom>, atom: Atom) -> Result<(), NoMemory>
+        ensures { OnOk result (set.new.keys ≡ insert_all ⟦<Atom as PartialEq>⟧.eq set.old.keys (steps_of self.now atom)) }
+    {
+        match atom {
+            Atom::Class { name, arg } => add_members(set, self.below(Basic::Class(name)), arg),
+            Atom::Role { name, from, to } => {
+                let role = RoleExpr::Direct(name);
+                add_if_blank(set, to, self.below(Basic::Some(role)), from)?;
+                add_if_blank(set, from, self.below(Basic::Some(role.inverse())), to)?;
+                add_pairs(set, self.narrower(Prop::Role(role)), from, to)
+            }
+            Atom::Attr { name, from, value } => {
+                add_if_blank(set, value, self.below(Basic::Subjects(name)), from)?;
+                add_pairs(set, self.narrower(Prop::Attr(name)), from, value)
+            }
+        }
+    }
+}
+
+fn listed(alloc: Global, atoms: &[Atom]) -> Result<List<Atom>, NoMemory>
+    ensures { IfOk result (λ list. list ≡ atoms.now) }
+{
+    let copy = atoms.iter().copied().collect(alloc)?;
+    Ok(List::from_vec(copy))
+}
+
+// Adds the atoms that an argument is in the concepts, where the other argument is `_`.
+fn add_if_blank(set: &mut IndexSet<Atom>, other: Arg, basics: &[Basic], arg: Arg) -> Result<(), NoMemory>
+    ensures { OnOk result (set.new.keys ≡ insert_all ⟦<Atom as PartialEq>⟧.eq set.old.keys (if_blank other (map (λ b. at b arg) basics.now))) }
+{
+    match other {
+        Arg::Blank => add_members(set, basics, arg),
+        _ => Ok(()),
+    }
+}
+
+fn add_members(set: &mut IndexSet<Atom>, basics: &[Basic], arg: Arg) -> Result<(), NoMemory>
+    ensures { OnOk result (set.new.keys ≡ insert_all ⟦<Atom as PartialEq>⟧.eq set.old.keys (map (λ b. at b arg) basics.now)) }
+{
+    for basic in basics {
+        set.insert(basic.at(arg))?;
+    }
+    Ok(())
+}
+
+fn add_pairs(set: &mut IndexSet<Atom>, props: &[Prop], from: Arg, to: Arg) -> Result<(), NoMemory>
+    ensures { OnOk result (set.new.keys ≡ insert_all ⟦<Atom as PartialEq>⟧.eq set.old.keys (map (λ p. pair p from to) props.now)) }
+{
+    for prop in props {
+        set.insert(prop.pair(from, to))?;
+    }
+    Ok(())
+}

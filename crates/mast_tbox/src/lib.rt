@@ -1,0 +1,23 @@
+//! Axioms and constraints, the normal inclusions, what is below an atom, and the restrictions.
+//! What the crates above rest on: `normal` gives the normal inclusions, `down` all of `Down` of an atom, `restriction_breach` the first breach.
+//! The words of its contracts stand in specs/Expressions.antt, specs/Inclusions.antt, specs/Closure.antt and specs/Restrictions.antt.
+//! It must not know how documents are read, nor of facts, queries with several atoms, or the meaning of an inclusion.
+#![tactic(auto)]
+
+mod axiom;
+mod constraint;
+mod down;
+mod expression;
+mod groups;
+mod index;
+mod normal_inclusions;
+mod tbox;
+
+pub use axiom::{Inclusion, Lined, Negative};
+pub use constraint::{Constraint, Constraints, Step};
+pub use expression::{Basic, Prop, RoleExpr, basic_laws, prop_laws};
+pub use normal_inclusions::{NormalTBox, normal};
+pub use tbox::{Ontology, TBox};
+
+#[cfg(test)]
+mod tests;
