@@ -96,7 +96,7 @@ module _ (tbox : List Inclusion) where
   inverse_pair (PAttr u) (PRole s) c = absurd c
   inverse_pair (PAttr u) (PAttr v) c = record { inclusion = IAttr u v; stands = c; gives = front (PAttr u, PAttr v) [] }
 
-  leads_pair : (p q : Prop) → Leads tbox p q → PairOf prop_pairs tbox (p, q)
+  pub leads_pair : (p q : Prop) → Leads tbox p q → PairOf prop_pairs tbox (p, q)
   leads_pair p q (inl s) = states_pair p q s
   leads_pair p q (inr s) = inverse_pair p q s
 

@@ -7,3 +7,7 @@ pub mod StepLemmas
 pub mod IndexLemmas
 pub mod NumberLemmas
 pub mod SortedLemmas
+pub mod NoteLemmas
+pub mod ComponentLemmas
+pub mod RoundLemmas
+pub mod JudgeLemmas

@@ -147,3 +147,8 @@ pub before_end : {X : Type 0} (xs : List X) (j : ℕ) (x : X) → slice_get xs j
 before_end [] j x e = cc
 before_end (y ∷ xs) zero x e = omega arith
 before_end (y ∷ xs) (suc j) x e = let h = before_end xs j x e in omega arith
+
+-- a property of the start that goes along the steps is one of all that is reached
+pub reaches_least : {X : Type 0} {S : X → X → Type 0} (P : X → Type 0) → ((x y : X) → P x → S x y → P y) → (x y : X) → P x → Reaches S x y → P y
+reaches_least P closed x y p itself = p
+reaches_least P closed x y p (onward {y = w} s d) = reaches_least P closed w y (closed x w p s) d

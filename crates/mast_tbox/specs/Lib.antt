@@ -4,3 +4,8 @@ pub mod Lists
 pub mod Groups
 pub mod Numbers
 pub mod Closure
+pub mod Properties
+pub mod Components
+pub mod Restrictions
+pub mod Judging
+pub mod Laws

@@ -5,18 +5,23 @@
 #![tactic(auto)]
 
 mod axiom;
+mod components;
 mod constraint;
 mod down;
 mod expression;
 mod groups;
 mod index;
+mod laws;
 mod normal_inclusions;
+mod restriction;
 mod tbox;
 
 pub use axiom::{Inclusion, Lined, Negative};
 pub use constraint::{Constraint, Constraints, Step};
 pub use expression::{Basic, Prop, RoleExpr, basic_laws, prop_laws};
+pub use laws::{below_law, down_law, number_law, property_order_law};
 pub use normal_inclusions::{NormalTBox, normal};
+pub use restriction::{RestrictionBreach, RestrictionKind, restriction_breach};
 pub use tbox::{Ontology, TBox};
 
 #[cfg(test)]

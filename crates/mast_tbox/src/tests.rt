@@ -1,8 +1,192 @@
 //! Worked TBoxes, with what they give.
+ghost use Rattle.std.specs.Prelude.{◌≡◌, ◌+◌, ◌≤◌, length, IfOk};
+ghost use Rattle.mast_tbox.specs.Numbers.{IsNumbered};
 
-use crate::{Basic, Inclusion, Lined, NormalTBox, RoleExpr, TBox, normal};
+use crate::{
+    Basic, Constraint, Inclusion, Lined, NormalTBox, Prop, RestrictionBreach, RestrictionKind,
+    RoleExpr, Step, TBox, normal, restriction_breach,
+};
 use mast_cq::{Arg, Atom};
 use mast_terms::{List, Name};
-use std::alloc::Global;
+use mast_tree::DocName;
+use std::alloc::{AllocError, Global};
 use std::process::Abort;
 use std::test::Fail;
+
+const X: Arg = Arg::Var(0);
+
+const Y: Arg = Arg::Var(1);
+
+const NONE: Arg = Arg::Blank;
+
+const P: RoleExpr = RoleExpr::Direct(Name(0));
+
+const Q: RoleExpr = RoleExpr::Direct(Name(1));
+
+const R: RoleExpr = RoleExpr::Direct(Name(2));
+
+fn class(name: u32, arg: Arg) -> Atom {
+    Atom::Class {
+        name: Name(name),
+        arg,
+    }
+}
+
+fn role(name: u32, from: Arg, to: Arg) -> Atom {
+    Atom::Role {
+        name: Name(name),
+        from,
+        to,
+    }
+}
+
+fn below(sub: u32, sup: u32) -> Inclusion {
+    Inclusion::Class {
+        sub: Basic::Class(Name(sub)),
+        sup: Name(sup),
+    }
+}
+
+fn narrower(sub: RoleExpr, sup: RoleExpr) -> Inclusion {
+    Inclusion::Role { sub, sup }
+}
+
+fn copied<T: Copy + Drop>(alloc: Global, items: &[T]) -> Result<List<T>, AllocError>
+    ensures { IfOk result (λ list. list ≡ items.now) }
+{
+    let copy = items.iter().copied().collect(alloc)?;
+    Ok(List::from_vec(copy))
+}
+
+fn tbox(
+    alloc: Global,
+    inclusions: &[Lined<Inclusion>],
+    functional: &[Lined<Prop>],
+) -> Result<TBox, AllocError>
+    requires numbered { IsNumbered inclusions.now }
+    requires bounded { length inclusions.now + length functional.now ≤ 1000 }
+{
+    Ok(TBox {
+        inclusions: copied(alloc, inclusions)?,
+        negatives: List::new(alloc),
+        functional: copied(alloc, functional)?,
+    })
+}
+
+fn at<T>(line: u32, item: T) -> Lined<T>
+    ensures { result ≡ record { line = line; item = item } }
+{
+    Lined { line, item }
+}
+
+#[test]
+fn what_is_below_an_atom(rt: HostRuntime) -> Result<(), Fail> {
+    let alloc = rt.alloc();
+    let lines = [
+        at(1, below(1, 0)),
+        at(2, Inclusion::Class {
+            sub: Basic::Some(P),
+            sup: Name(1),
+        }),
+        at(3, Inclusion::Exists {
+            sub: Basic::Class(Name(2)),
+            role: P,
+            end: Some(Name(3)),
+            k: 0,
+        }),
+        at(4, narrower(Q.inverse(), P)),
+    ];
+    let normal = normal(alloc, &tbox(alloc, &lines, &[])?)?;
+    assert_eq!(&rt; normal.inclusions().len(), 6);
+    let auxiliary = 65_536;
+    let all = [
+        class(0, X),
+        class(1, X),
+        class(2, X),
+        role(0, X, NONE),
+        role(1, NONE, X),
+        role(auxiliary, X, NONE),
+    ];
+    assert_eq!(&rt; normal.down(alloc, class(0, X))?.as_slice(), all.as_slice());
+    let bound = [role(0, X, Y), role(1, Y, X), role(auxiliary, X, Y)];
+    assert_eq!(&rt; normal.down(alloc, role(0, X, Y))?.as_slice(), bound.as_slice());
+    assert_eq!(&rt; normal.below(Basic::Class(Name(3))), [Basic::Some(RoleExpr::Inverse(Name(auxiliary)))].as_slice());
+    Ok(())
+}
+
+fn judged(
+    rt: &impl Abort,
+    alloc: Global,
+    inclusions: &[Lined<Inclusion>],
+    functional: &[Lined<Prop>],
+    paths: &[&[Step]],
+    want: Option<RestrictionBreach>,
+) -> Result<(), Fail>
+    requires numbered { IsNumbered inclusions.now }
+    requires bounded { length inclusions.now + length functional.now ≤ 1000 }
+{
+    let tbox = tbox(alloc, inclusions, functional)?;
+    let mut list = List::new(alloc);
+    for path in paths {
+        list.push(alloc, copied(alloc, *path)?)?;
+    }
+    let mut constraints = Vec::new(alloc);
+    if !paths.is_empty() {
+        constraints.push(at(3, Constraint::Identify {
+            concept: Basic::Class(Name(0)),
+            paths: list,
+        }))?;
+    }
+    let breach = restriction_breach(alloc, &tbox, &constraints)?;
+    assert_eq!(rt; breach, want);
+    Ok(())
+}
+
+fn by_axiom(line: u32) -> Option<RestrictionBreach> {
+    Some(RestrictionBreach {
+        doc: DocName::Ontology,
+        line,
+        kind: RestrictionKind::FunctSpecialised,
+    })
+}
+
+fn by_constraint(kind: RestrictionKind) -> Option<RestrictionBreach> {
+    Some(RestrictionBreach {
+        doc: DocName::Constraints,
+        line: 3,
+        kind,
+    })
+}
+
+#[test]
+fn functional_properties(rt: HostRuntime) -> Result<(), Fail> {
+    let alloc = rt.alloc();
+    let f = [at(1, Prop::Role(P))];
+    let one = [at(5, narrower(Q, P)), at(4, narrower(R, P))];
+    judged(&rt, alloc, &one, &f, &[], by_axiom(5))?;
+    let same = [at(5, narrower(Q, P)), at(6, narrower(P, Q))];
+    judged(&rt, alloc, &same, &f, &[], None)?;
+    let turned = [
+        at(4, narrower(Q.inverse(), P)),
+        at(4, narrower(P, Q.inverse())),
+        at(5, narrower(R, Q)),
+    ];
+    judged(&rt, alloc, &turned[..2], &f, &[], None)?;
+    judged(&rt, alloc, &turned, &f, &[], by_axiom(5))?;
+    Ok(())
+}
+
+#[test]
+fn anchors(rt: HostRuntime) -> Result<(), Fail> {
+    let alloc = rt.alloc();
+    let f = [];
+    let long = [Step::Role(P), Step::Attr(Name(0))];
+    let tested = [Step::Role(P), Step::Test(Name(1))];
+    let other = [Step::Attr(Name(0))];
+    let one = [at(5, narrower(Q, P.inverse()))];
+    judged(&rt, alloc, &[], &f, &[&long], by_constraint(RestrictionKind::NotLocal))?;
+    judged(&rt, alloc, &[], &f, &[&long, &tested], None)?;
+    judged(&rt, alloc, &one, &f, &[&long, &tested], by_constraint(RestrictionKind::AnchorSpecialised))?;
+    judged(&rt, alloc, &one, &f, &[&tested, &other], None)?;
+    Ok(())
+}

@@ -1,0 +1,8 @@
+use Rattle.std.proofs.Common.{◌≡◌, drop}
+use Rattle.mast_tbox.specs.contracts.expression.PropPartialEq.TheImpl as prop
+use Rattle.mast_tbox.specs.Components.{chief}
+use Rattle.mast_tbox.specs.Judging.{is_like, first_judged}
+use Rattle.mast_tbox.proofs.restriction.first_constraint.Given as goal
+
+abbrev pub invariant-loop-constraint : goal.invariant-loop-constraint
+invariant-loop-constraint l = first_judged (is_like prop.eq-value.it (chief prop.eq-value.it l.chiefs) l.special) (drop l.constraint-index l.constraints) ≡ first_judged (is_like prop.eq-value.it (chief prop.eq-value.it l.chiefs) l.special) l.constraints

@@ -1,0 +1,88 @@
+-- Components: for each property the chief of those that are equivalent to it.
+use Rattle.std.specs.Prelude.{◌≡◌, List, [], ◌∷◌, ◌++◌, map, Option, Some, None, Bool, true, false, not, ◌&&◌, if◌then◌else◌, Contains, ◌↔◌, ◌⊎◌}
+use Rattle.std.specs.List.{list_any}
+use Rattle.indexmap.specs.IndexMap.{IndexMap, get}
+use Rattle.indexmap.specs.IndexSet.{IndexSet, contains}
+use Rattle.mast_tbox.specs.declared.expression.Prop.{Prop}
+use Rattle.mast_tbox.specs.declared.expression.Prop.TheVariants.{Role as PRole, Attr as PAttr}
+use Rattle.mast_tbox.specs.declared.axiom.Inclusion.{Inclusion}
+use Rattle.mast_tbox.specs.declared.axiom.Inclusion.TheVariants.{Class as IClass, Exists, HasValue, Role as IRole, Attr as IAttr, Range}
+use Rattle.mast_tbox.specs.Expressions.{inverse_role}
+use Rattle.mast_tbox.specs.Inclusions.{Leads}
+use Rattle.mast_tbox.specs.Lists.{Reaches}
+use Rattle.mast_tbox.specs.Properties.{AreEquivalent}
+
+-- the inclusion with its sides changed, where it is one between properties
+abbrev pub turned : Inclusion → Inclusion
+turned (IClass b a) = IClass b a
+turned (Exists b r end k) = Exists b r end k
+turned (HasValue b u k) = HasValue b u k
+turned (IRole r s) = IRole s r
+turned (IAttr u v) = IAttr v u
+turned (Range u kind) = Range u kind
+
+-- the properties between which an inclusion leads
+abbrev pub ends : Inclusion → List Prop
+ends (IClass b a) = []
+ends (Exists b r end k) = []
+ends (HasValue b u k) = []
+ends (IRole r s) = PRole r ∷ PRole s ∷ PRole (inverse_role r) ∷ PRole (inverse_role s) ∷ []
+ends (IAttr u v) = PAttr u ∷ PAttr v ∷ []
+ends (Range u kind) = []
+
+-- those of all inclusions
+abbrev pub all_ends : List Inclusion → List Prop
+all_ends [] = []
+all_ends (i ∷ is) = ends i ++ all_ends is
+
+-- the second list begins with the first
+abbrev pub Begins : {X : Type 0} → List X → List X → Type 0
+Begins {X} xs ys = (more : List X) × (xs ++ more ≡ ys)
+
+-- a step to a property that stands in a set
+abbrev pub Inside : List Prop → (Prop → List Prop) → Prop → Prop → Type 0
+Inside set next p q = Contains (next p) q × Contains set q
+
+-- what the properties come to, as far as they are settled: a free one has no chief yet, one with a chief is equivalent to
+-- it, equivalent ones have one chief, and each end of an inclusion is free or has one
+pub record Settled (tbox : List Inclusion) (free : List Prop) (note : Prop → Option Prop) : Type 0 where
+  pub free_ones : (p : Prop) → Contains free p → note p ≡ None
+  pub equivalent : (p r : Prop) → note p ≡ Some r → AreEquivalent tbox p r
+  pub alike : (p q r : Prop) → note p ≡ Some r → AreEquivalent tbox p q → note q ≡ Some r
+  pub all_ones : (p : Prop) → Contains (all_ends tbox) p → Contains free p ⊎ ((r : Prop) × (note p ≡ Some r))
+
+-- the chief that is noted, or else the property itself
+abbrev pub chosen : Option Prop → Prop → Prop
+chosen None p = p
+chosen (Some r) p = r
+
+-- the chief of a property; one that has none noted is its own
+abbrev pub chief : {S : Type 0} → (Prop → Prop → Bool) → IndexMap Prop Prop S → Prop → Prop
+chief eq m p = chosen (get eq m p) p
+
+-- two properties have one chief exactly where they are equivalent
+abbrev pub TellsComponents : List Inclusion → (Prop → Prop) → Type 0
+TellsComponents tbox f = (p q : Prop) → (f p ≡ f q) ↔ AreEquivalent tbox p q
+
+module _ (eq : Prop → Prop → Bool) where
+  -- the chief that a property has noted after a root was noted for the list
+  abbrev pub noted : Prop → List Prop → Prop → Option Prop → Option Prop
+  noted root props p before = if list_any (eq p) props then Some root else before
+
+  -- a property is free after those of the list were closed
+  abbrev pub kept : List Prop → Prop → Bool → Bool
+  kept props p before = if list_any (eq p) props then false else before
+
+-- the properties of one step: those that are reached from the root within the free ones downwards, and within these upwards
+abbrev pub IsAround : (Prop → List Prop) → (Prop → List Prop) → List Prop → Prop → List Prop → Type 0
+IsAround below above free root same =
+    (under : List Prop) × (((p : Prop) → Contains under p ↔ Reaches (Inside free below) root p) × ((p : Prop) → Contains same p ↔ Reaches (Inside under above) root p))
+
+-- a root is noted as the chief of the properties around it, which are then no longer free
+pub record Settles (below above : Prop → List Prop) (free : List Prop) (before : Prop → Option Prop) (root : Prop) (left : List Prop) (after : Prop → Option Prop) : Type 0 where
+  pub same : List Prop
+  pub around : IsAround below above free root same
+  pub inside : (p : Prop) → Contains same p → after p ≡ Some root
+  pub outside : (p : Prop) → (Contains same p → ⊥) → after p ≡ before p
+  pub decided : (p : Prop) → Contains same p ⊎ (Contains same p → ⊥)
+  pub still_free : (p : Prop) → Contains left p ↔ (Contains free p × (Contains same p → ⊥))
