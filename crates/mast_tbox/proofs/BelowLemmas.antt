@@ -1,5 +1,5 @@
 -- What the lists by right sides hold: the basic concepts directly below one, and the properties that lead to one.
-use Rattle.std.proofs.Common.{◌≡◌, ℕ, ◌⊎◌, inl, inr, ◌↔◌, Bool, true, false, List, [], ◌∷◌, ◌++◌, Contains, refl, sym, ap, subst, ◌∙◌, if◌then◌else◌}
+use Rattle.std.proofs.Common.{◌≡◌, ℕ, ◌⊎◌, inl, inr, ◌↔◌, Bool, true, false, List, [], ◌∷◌, Contains, refl, sym, ap, subst, ◌∙◌, if◌then◌else◌}
 use Rattle.std.proofs.lemmas.List.Elements.{Contains-append_left, Contains-append_right, Contains-append_cases}
 use Rattle.mast_tbox.specs.declared.expression.RoleExpr.{RoleExpr}
 use Rattle.mast_tbox.specs.declared.expression.Basic.{Basic}
@@ -11,7 +11,7 @@ use Rattle.mast_tbox.specs.declared.axiom.Inclusion.TheVariants.{Class as IClass
 use Rattle.mast_tbox.specs.Expressions.{inverse_role, inverse, subjects, same_basic, same_prop}
 use Rattle.mast_tbox.specs.Inclusions.{Adds, States, Leads, IsDirectlyBelow, by_class, by_filler, by_property, concept_pairs, prop_pairs, pairs, firsts, directly_below, leading_to}
 use Rattle.mast_tbox.proofs.MemberLemmas.{front, later, none, first_or, only_one}
-use Rattle.mast_tbox.proofs.EqualityLemmas.{basic_same, basic_itself, prop_same, prop_itself, inverse_role_twice, inverse_twice}
+use Rattle.mast_tbox.proofs.EqualityLemmas.{basic_same, basic_itself, prop_same, prop_itself, inverse_role_twice}
 use Rattle.mast_tbox.proofs.OnceLemmas.{once_from, once_has}
 
 module _ {X : Type 0} (eq : X → X → Bool) (same : (x y : X) → eq x y ≡ true → x ≡ y) (itself : (x : X) → eq x x ≡ true) where
@@ -59,7 +59,6 @@ module _ {X : Type 0} (f : Inclusion → List (X × X)) where
     | inr a ↦ Contains-append_right (f j) (pairs f is) p (pairs_has is i p a g)
   ]
 
-
 module _ (tbox : List Inclusion) where
   -- an inclusion of roles leads between them, and between their inverses
   pub leads_inverse : (r s : RoleExpr) → Contains tbox (IRole r s) → Leads tbox (PRole (inverse_role r)) (PRole (inverse_role s))
@@ -89,8 +88,8 @@ module _ (tbox : List Inclusion) where
     stands = c;
     gives = later (PRole r, PRole s) (PRole (inverse_role r), PRole (inverse_role s)) ((PRole (inverse_role (inverse_role r)), PRole (inverse_role (inverse_role s))) ∷ [])
         (subst (λ w. Contains ((PRole (inverse_role (inverse_role r)), PRole (inverse_role (inverse_role s))) ∷ []) w)
-            (ap (λ w. (PRole w, PRole (inverse_role (inverse_role s)))) (inverse_role_twice r) ∙ ap (λ w. (PRole r, PRole w)) (inverse_role_twice s))
-            (front (PRole (inverse_role (inverse_role r)), PRole (inverse_role (inverse_role s))) []));
+        (ap (λ w. (PRole w, PRole (inverse_role (inverse_role s)))) (inverse_role_twice r) ∙ ap (λ w. (PRole r, PRole w)) (inverse_role_twice s))
+        (front (PRole (inverse_role (inverse_role r)), PRole (inverse_role (inverse_role s))) []));
   }
   inverse_pair (PRole r) (PAttr v) c = absurd c
   inverse_pair (PAttr u) (PRole s) c = absurd c
@@ -104,9 +103,9 @@ module _ (tbox : List Inclusion) where
   pub leading_is : (q p : Prop) → Contains (leading_to tbox q) p ↔ Leads tbox p q
   leading_is q p = (
     λ c. let w = pairs_from prop_pairs tbox (p, q) (firsts_from same_prop prop_same prop_itself q (pairs prop_pairs tbox) p (once_from same_prop prop_same prop_itself (firsts same_prop q (pairs prop_pairs tbox)) p c)) in
-      prop_pair_of w.inclusion p q w.stands w.gives,
+        prop_pair_of w.inclusion p q w.stands w.gives,
     λ l. let w = leads_pair p q l in
-      once_has same_prop prop_same prop_itself (firsts same_prop q (pairs prop_pairs tbox)) p (firsts_has same_prop prop_same prop_itself q (pairs prop_pairs tbox) p (pairs_has prop_pairs tbox w.inclusion (p, q) w.stands w.gives)),
+        once_has same_prop prop_same prop_itself (firsts same_prop q (pairs prop_pairs tbox)) p (firsts_has same_prop prop_same prop_itself q (pairs prop_pairs tbox) p (pairs_has prop_pairs tbox w.inclusion (p, q) w.stands w.gives)),
   )
 
   below_pair_of : (i : Inclusion) (c b : Basic) → Contains tbox i → Contains (concept_pairs i) (c, b) → IsDirectlyBelow tbox c b
@@ -119,7 +118,7 @@ module _ (tbox : List Inclusion) where
   below_pair_of (IRole r t) c b s g = elim (first_or (BSome r, BSome t) ((BSome (inverse_role r), BSome (inverse_role t)) ∷ []) (c, b) g) [
     | inl e ↦ by_property (PRole r) (PRole t) (inl s) (ap (λ w. w.0) e) (ap (λ w. w.1) e)
     | inr a ↦ let e = only_one (BSome (inverse_role r), BSome (inverse_role t)) (c, b) a in
-      by_property (PRole (inverse_role r)) (PRole (inverse_role t)) (leads_inverse r t s) (ap (λ w. w.0) e) (ap (λ w. w.1) e)
+        by_property (PRole (inverse_role r)) (PRole (inverse_role t)) (leads_inverse r t s) (ap (λ w. w.0) e) (ap (λ w. w.1) e)
   ]
   below_pair_of (IAttr u v) c b s g = let e = only_one (Subjects u, Subjects v) (c, b) g in
       by_property (PAttr u) (PAttr v) (inl s) (ap (λ w. w.0) e) (ap (λ w. w.1) e)
@@ -136,7 +135,7 @@ module _ (tbox : List Inclusion) where
   subject_pairs (IRole r s) p q g = elim (first_or (PRole r, PRole s) ((PRole (inverse_role r), PRole (inverse_role s)) ∷ []) (p, q) g) [
     | inl e ↦ subst (λ w. Contains (concept_pairs (IRole r s)) (subjects w.0, subjects w.1)) (sym e) (front (BSome r, BSome s) ((BSome (inverse_role r), BSome (inverse_role s)) ∷ []))
     | inr a ↦ subst (λ w. Contains (concept_pairs (IRole r s)) (subjects w.0, subjects w.1)) (sym (only_one (PRole (inverse_role r), PRole (inverse_role s)) (p, q) a))
-      (later (BSome (inverse_role r), BSome (inverse_role s)) (BSome r, BSome s) ((BSome (inverse_role r), BSome (inverse_role s)) ∷ []) (front (BSome (inverse_role r), BSome (inverse_role s)) []))
+        (later (BSome (inverse_role r), BSome (inverse_role s)) (BSome r, BSome s) ((BSome (inverse_role r), BSome (inverse_role s)) ∷ []) (front (BSome (inverse_role r), BSome (inverse_role s)) []))
   ]
   subject_pairs (IAttr u v) p q g = subst (λ w. Contains (concept_pairs (IAttr u v)) (subjects w.0, subjects w.1)) (sym (only_one (PAttr u, PAttr v) (p, q) g)) (front (Subjects u, Subjects v) [])
   subject_pairs (Range u kind) p q g = absurd (none (p, q) g)
@@ -147,13 +146,13 @@ module _ (tbox : List Inclusion) where
   directly_pair c b (IsDirectlyBelow.by_property p q l f e) =
       let w = leads_pair p q l in
       subst (λ v. PairOf concept_pairs tbox (v, b)) (sym f) (subst (λ v. PairOf concept_pairs tbox (subjects p, v)) (sym e)
-          (record { inclusion = w.inclusion; stands = w.stands; gives = subject_pairs w.inclusion p q w.gives }))
+      (record { inclusion = w.inclusion; stands = w.stands; gives = subject_pairs w.inclusion p q w.gives }))
 
   -- the basic concepts directly below one are those of the list
   pub directly_is : (b c : Basic) → Contains (directly_below tbox b) c ↔ IsDirectlyBelow tbox c b
   directly_is b c = (
     λ i. let w = pairs_from concept_pairs tbox (c, b) (firsts_from same_basic basic_same basic_itself b (pairs concept_pairs tbox) c (once_from same_basic basic_same basic_itself (firsts same_basic b (pairs concept_pairs tbox)) c i)) in
-      below_pair_of w.inclusion c b w.stands w.gives,
+        below_pair_of w.inclusion c b w.stands w.gives,
     λ d. let w = directly_pair c b d in
-      once_has same_basic basic_same basic_itself (firsts same_basic b (pairs concept_pairs tbox)) c (firsts_has same_basic basic_same basic_itself b (pairs concept_pairs tbox) c (pairs_has concept_pairs tbox w.inclusion (c, b) w.stands w.gives)),
+        once_has same_basic basic_same basic_itself (firsts same_basic b (pairs concept_pairs tbox)) c (firsts_has same_basic basic_same basic_itself b (pairs concept_pairs tbox) c (pairs_has concept_pairs tbox w.inclusion (c, b) w.stands w.gives)),
   )

@@ -1,5 +1,5 @@
 -- Components: what is reached within the free properties downwards and then upwards is all that is equivalent to the root.
-use Rattle.std.proofs.Common.{◌≡◌, ◌⊎◌, inl, inr, ◌↔◌, Option, Some, None, List, [], ◌∷◌, ◌++◌, Contains, map, refl, sym, ap, subst, ◌∙◌, arith}
+use Rattle.std.proofs.Common.{◌≡◌, ◌⊎◌, inl, inr, ◌↔◌, Option, Some, None, List, [], ◌∷◌, Contains, map, refl, sym, ap, subst, ◌∙◌, arith}
 use Rattle.std.proofs.lemmas.List.Elements.{Contains-append_left, Contains-append_right}
 use Rattle.mast_tbox.specs.declared.expression.RoleExpr.{RoleExpr}
 use Rattle.mast_tbox.specs.declared.expression.Prop.{Prop}
@@ -13,7 +13,7 @@ use Rattle.mast_tbox.specs.Inclusions.{States, Leads, prop_pairs}
 use Rattle.mast_tbox.specs.Lists.{Reaches, itself, onward, items}
 use Rattle.mast_tbox.specs.Properties.{IsBelow, AreEquivalent}
 use Rattle.mast_tbox.specs.Components.{turned, ends, all_ends, Inside, Settled, Settles, IsAround, chosen, TellsComponents}
-use Rattle.mast_tbox.proofs.MemberLemmas.{front, later, none, first_or, only_one, map_in, map_out}
+use Rattle.mast_tbox.proofs.MemberLemmas.{none, first_or, only_one, map_in, map_out}
 use Rattle.mast_tbox.proofs.BelowLemmas.{leads_pair}
 use Rattle.mast_tbox.proofs.WorkLemmas.{reaches_join, reaches_more, reaches_weaker}
 
@@ -95,10 +95,13 @@ module _ (tbox : List Inclusion) (below above : Prop → List Prop) (below_is : 
         same_all y q d (reaches_more root x y r ((above_is x y).1 l, (under_is y).1 (under_all y g f))) f c
 
     same_from : (q : Prop) → Reaches (Inside under above) root q → AreEquivalent tbox q root
-    same_from q r = (elim (inside_or under above root q r) [
-      | inl e ↦ subst (λ v. IsBelow tbox v root) (sym e) itself
-      | inr c ↦ go_below root q ((under_is q).0 c) itself
-    ], go_above under q r)
+    same_from q r = (
+      elim (inside_or under above root q r) [
+        | inl e ↦ subst (λ v. IsBelow tbox v root) (sym e) itself
+        | inr c ↦ go_below root q ((under_is q).0 c) itself
+      ],
+      go_above under q r,
+    )
 
   around_is : (same : List Prop) → IsAround below above free root same → (q : Prop) → Contains same q ↔ AreEquivalent tbox q root
   around_is same a q = (

@@ -1,6 +1,6 @@
 -- The tests of equality hold exactly of equal expressions.
 use borrow.Author.Tests.{eqb-true, eq-eqb}
-use Rattle.std.proofs.Common.{◌≡◌, ℕ, Bool, true, nat_eq, refl, ap}
+use Rattle.std.proofs.Common.{◌≡◌, true, nat_eq, refl, ap}
 use Rattle.mast_terms.specs.declared.name.Name.{Name}
 use Rattle.mast_tbox.specs.declared.expression.RoleExpr.{RoleExpr}
 use Rattle.mast_tbox.specs.declared.expression.RoleExpr.TheVariants.{Direct, Inverse}

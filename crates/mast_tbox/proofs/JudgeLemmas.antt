@@ -1,5 +1,5 @@
 -- Judging by the chiefs finds the restriction breach.
-use Rattle.std.proofs.Common.{◌≡◌, ℕ, ◌⊎◌, inl, inr, ◌↔◌, Bool, true, false, ◌||◌, Option, Some, None, List, [], ◌∷◌, ◌++◌, map, Contains, refl, sym, ap, subst, ◌∙◌, if◌then◌else◌}
+use Rattle.std.proofs.Common.{◌≡◌, ℕ, inl, inr, ◌↔◌, Bool, true, false, ◌||◌, Option, Some, None, List, [], ◌∷◌, ◌++◌, map, Contains, refl, sym, ap, subst, ◌∙◌, if◌then◌else◌}
 use Rattle.std.specs.List.{list_any}
 use Rattle.std.specs.Cmp.{IsEquivalence}
 use Rattle.std.proofs.lemmas.List.Elements.{Contains-append_left, Contains-append_right, Contains-append_cases}
@@ -20,7 +20,7 @@ use Rattle.mast_tbox.specs.declared.restriction.RestrictionKind.TheVariants.{Fun
 use Rattle.mast_tbox.specs.declared.restriction.RestrictionBreach.{RestrictionBreach}
 use Rattle.mast_tbox.specs.Expressions.{inverse}
 use Rattle.mast_tbox.specs.Inclusions.{Leads, States}
-use Rattle.mast_tbox.specs.Lists.{Reaches, itself, onward, items}
+use Rattle.mast_tbox.specs.Lists.{itself, onward, items}
 use Rattle.mast_tbox.specs.Properties.{IsBelow, AreEquivalent}
 use Rattle.mast_tbox.specs.Components.{TellsComponents}
 use Rattle.mast_tbox.specs.Judging.{unless_same, narrowed, all_narrowed, made_functional, functionals, is_like, passes, first_line, judged, breach_kind, at_line, first_judged}
@@ -123,10 +123,10 @@ module _ (eq : Prop → Prop → Bool) (laws : IsEquivalence eq) (same : (x y : 
       → (l : Lined Inclusion) → (passes (is_like eq f set) (narrowed eq f l.item) ≡ true) ↔ SpecialisesFunctional tbox F l
   axiom_is set qs holds F is l = (
     λ t. let w = passes_out (is_like eq f set) (narrowed eq f l.item) t in
-      let v = (like_is set qs holds w.0).0 w.1.1 in
-      (v.0, ((is v.0).0 v.1.0, specialises_in l.item v.0 w.0 w.1.0 v.1.1)),
+        let v = (like_is set qs holds w.0).0 w.1.1 in
+        (v.0, ((is v.0).0 v.1.0, specialises_in l.item v.0 w.0 w.1.0 v.1.1)),
     λ s. let w = specialises_out l.item s.0 s.1.1 in
-      ap (passes (is_like eq f set)) w.1.0 ∙ (like_is set qs holds w.0).1 (s.0, ((is s.0).1 s.1.0, w.1.1)),
+        ap (passes (is_like eq f set)) w.1.0 ∙ (like_is set qs holds w.0).1 (s.0, ((is s.0).1 s.1.0, w.1.1)),
   )
 
   narrowed_case : (l : Lined Inclusion) (ls : List (Lined Inclusion)) (q : Prop) (o : Option Prop) → narrowed eq f l.item ≡ o
@@ -302,11 +302,11 @@ pub special_is : (eq : Prop → Prop → Bool) → IsEquivalence eq → ((x y : 
     → set.keys ≡ insert_all eq [] (map f (all_narrowed eq f lines)) → (p : Prop) → (is_like eq f set p ≡ true) ↔ IsSpecialised (items lines) p
 special_is eq laws same lines f tells set holds p = (
   λ t. let w = (like_is eq laws same (items lines) f tells set (all_narrowed eq f lines) holds p).0 t in
-    let v = narrowed_from eq laws same (items lines) f tells lines w.0 w.1.0 in
-    (v.0, (v.1.0, specialises_in eq laws same (items lines) f tells v.0 p w.0 v.1.1 (like_turned (items lines) w.0 p w.1.1))),
+      let v = narrowed_from eq laws same (items lines) f tells lines w.0 w.1.0 in
+      (v.0, (v.1.0, specialises_in eq laws same (items lines) f tells v.0 p w.0 v.1.1 (like_turned (items lines) w.0 p w.1.1))),
   λ s. let w = specialises_out eq laws same (items lines) f tells s.0 p s.1.1 in
-    (like_is eq laws same (items lines) f tells set (all_narrowed eq f lines) holds p).1
-    (w.0, (narrowed_has eq laws same (items lines) f tells lines s.0 w.0 s.1.0 w.1.0, like_turned (items lines) p w.0 w.1.1)),
+      (like_is eq laws same (items lines) f tells set (all_narrowed eq f lines) holds p).1
+      (w.0, (narrowed_has eq laws same (items lines) f tells lines s.0 w.0 s.1.0 w.1.0, like_turned (items lines) p w.0 w.1.1)),
 )
 
 -- the breach by an axiom, and by a constraint where there is none

@@ -1,5 +1,5 @@
 -- One root after another: how far the components are settled.
-use Rattle.std.proofs.Common.{◌≡◌, ℕ, ◌+◌, ◌-◌, ◌<◌, ◌≤◌, ◌⊎◌, inl, inr, ◌↔◌, Bool, true, false, Option, Some, None, List, [], ◌∷◌, ◌++◌, map, length, drop, slice_index_or, Contains, refl, sym, ap, subst, ◌∙◌, arith}
+use Rattle.std.proofs.Common.{◌≡◌, ℕ, ◌+◌, ◌-◌, ◌<◌, ◌≤◌, ◌⊎◌, inl, inr, ◌↔◌, Bool, true, false, Option, None, List, [], ◌∷◌, map, length, drop, slice_index_or, Contains, sym, ap, subst, ◌∙◌, arith}
 use Rattle.std.specs.List.{list_any}
 use Rattle.std.specs.Cmp.{IsEquivalence}
 use Rattle.std.proofs.lemmas.List.{drop_more, drop_all}
@@ -43,7 +43,7 @@ module _ (tbox : List Inclusion) (first order : List Prop) (left : ℕ) (free : 
       let l = w.within in
       let e : left - 1 + 1 ≡ left = omega arith in
       let s : drop (left - 1) order ≡ slice_index_or order (left - 1) d ∷ drop left order =
-          drop_more order (left - 1) d (omega arith) ∙ ap (λ k. slice_index_or order (left - 1) d ∷ drop k order) e in
+      drop_more order (left - 1) d (omega arith) ∙ ap (λ k. slice_index_or order (left - 1) d ∷ drop k order) e in
       first_or (slice_index_or order (left - 1) d) (drop left order) p (subst (λ v. Contains v p) s c)
 
   -- a root that is settled already is passed

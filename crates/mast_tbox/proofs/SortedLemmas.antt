@@ -1,5 +1,5 @@
 -- Atoms that are sorted and distinct are in order, each once.
-use Rattle.std.proofs.Common.{◌≡◌, ℕ, suc, ◌+◌, ◌<◌, ◌≤◌, Bool, true, false, List, [], ◌∷◌, length, slice_index_or, refl, sym, ap, subst, ◌∙◌, arith}
+use Rattle.std.proofs.Common.{◌≡◌, suc, ◌+◌, Bool, true, false, List, [], ◌∷◌, slice_index_or, refl, sym, ap, subst, ◌∙◌, arith}
 use Rattle.std.specs.List.{AllByRecursion, IsDistinct}
 use Rattle.std.specs.List.Sorted.{IsSorted}
 use Rattle.std.specs.declared.cmp.Ordering.{Ordering}
@@ -30,7 +30,7 @@ module _ (cmp : Atom → Atom → Ordering) (orders : (g h : Atom) → cmp g h �
   after_first : (g : Atom) (gs : List Atom) → IsSorted cmp (g ∷ gs) → IsSorted cmp gs
   after_first g gs s k e l m =
       let w : is_lt (cmp (slice_index_or (g ∷ gs) (suc (k + 1)) e) (slice_index_or (g ∷ gs) (suc k) e)) ≡ false =
-          subst (λ j. is_lt (cmp (slice_index_or (g ∷ gs) j e) (slice_index_or (g ∷ gs) (suc k) e)) ≡ false) (let f : suc k + 1 ≡ suc (k + 1) = omega arith in f) (s (suc k) e (omega arith) (omega arith)) in
+      subst (λ j. is_lt (cmp (slice_index_or (g ∷ gs) j e) (slice_index_or (g ∷ gs) (suc k) e)) ≡ false) (let f : suc k + 1 ≡ suc (k + 1) = omega arith in f) (s (suc k) e (omega arith) (omega arith)) in
       w
 
   pub sorted_ordered : (gs : List Atom) → IsSorted cmp gs → IsDistinct eq gs → Ordered gs

@@ -1,5 +1,5 @@
 -- The steps by inclusions on an atom give exactly the atoms of the list.
-use Rattle.std.proofs.Common.{◌≡◌, ℕ, ◌⊎◌, inl, inr, ◌↔◌, List, [], ◌++◌, Contains, refl, sym, ap, subst, ◌∙◌}
+use Rattle.std.proofs.Common.{◌≡◌, ℕ, inl, inr, ◌↔◌, List, Contains, refl, sym, ap, subst, ◌∙◌}
 use Rattle.std.proofs.lemmas.List.Elements.{Contains-append_left, Contains-append_right, Contains-append_cases}
 use Rattle.mast_terms.specs.declared.name.Name.{Name}
 use Rattle.mast_cq.specs.declared.atom.Arg.{Arg}
@@ -13,8 +13,8 @@ use Rattle.mast_tbox.specs.declared.expression.Basic.TheVariants.{Class as BClas
 use Rattle.mast_tbox.specs.declared.expression.Prop.{Prop}
 use Rattle.mast_tbox.specs.declared.expression.Prop.TheVariants.{Role as PRole, Attr as PAttr}
 use Rattle.mast_tbox.specs.declared.axiom.Inclusion.{Inclusion}
-use Rattle.mast_tbox.specs.Expressions.{inverse_role, inverse, subjects, pair, at}
-use Rattle.mast_tbox.specs.Inclusions.{Adds, States, Leads, IsDirectlyBelow, by_class, by_filler, by_property, directly_below, leading_to}
+use Rattle.mast_tbox.specs.Expressions.{inverse_role, subjects, pair, at}
+use Rattle.mast_tbox.specs.Inclusions.{Adds, States, Leads, IsDirectlyBelow, by_class, by_filler, directly_below, leading_to}
 use Rattle.mast_tbox.specs.Closure.{AtomStep, into_class, adds, widens, if_blank, members, narrower, steps_of}
 use Rattle.mast_tbox.proofs.MemberLemmas.{none, map_in, map_out}
 use Rattle.mast_tbox.proofs.EqualityLemmas.{inverse_twice}

@@ -1,6 +1,5 @@
 -- Expressions: the inverse of a property, what a property and a basic concept say of arguments, and when two are the same.
-use Rattle.std.specs.Prelude.{ℕ, Bool, true, false, nat_eq}
-use Rattle.mast_terms.specs.declared.name.Name.{Name}
+use Rattle.std.specs.Prelude.{Bool, false, nat_eq}
 use Rattle.mast_cq.specs.declared.atom.Arg.{Arg}
 use Rattle.mast_cq.specs.declared.atom.Arg.TheVariants.{Blank}
 use Rattle.mast_cq.specs.declared.atom.Atom.{Atom}

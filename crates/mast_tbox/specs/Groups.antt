@@ -1,5 +1,5 @@
 -- What a key has, and what it has after an item was added.
-use Rattle.std.specs.Prelude.{◌≡◌, List, [], Option, Some, None, Bool, if◌then◌else◌}
+use Rattle.std.specs.Prelude.{◌≡◌, List, [], Some, None, Bool, if◌then◌else◌}
 use Rattle.indexmap.specs.IndexMap.{get}
 use Rattle.indexmap.specs.IndexSet.{insert_key}
 use Rattle.mast_tbox.specs.declared.groups.Groups.{Groups}

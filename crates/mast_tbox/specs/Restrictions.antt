@@ -1,9 +1,7 @@
 -- Restrictions: which properties are specialised, and the first breach.
 use Rattle.std.specs.Prelude.{◌≡◌, List, [], ◌∷◌, Option, Some, None, Contains, ◌⊎◌}
-use Rattle.mast_terms.specs.declared.name.Name.{Name}
 use Rattle.mast_tree.specs.declared.item.DocName.TheVariants.{Ontology, Constraints}
 use Rattle.mast_cq.specs.Sorts.{IsFirst}
-use Rattle.mast_tbox.specs.declared.expression.Basic.{Basic}
 use Rattle.mast_tbox.specs.declared.expression.Prop.{Prop}
 use Rattle.mast_tbox.specs.declared.expression.Prop.TheVariants.{Role as PRole, Attr as PAttr}
 use Rattle.mast_tbox.specs.declared.axiom.Inclusion.{Inclusion}

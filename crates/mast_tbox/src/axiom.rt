@@ -6,7 +6,10 @@ use mast_terms::{Kind, Name};
 #[derive(Clone, Copy, Debug, PartialEq, Eq)]
 pub enum Inclusion {
     /// The concept is below the class.
-    Class { sub: Basic, sup: Name },
+    Class {
+        sub: Basic,
+        sup: Name,
+    },
     /// What is in the concept has a filler by the role, which is in the class `end` if there is one. `k` is its number.
     Exists {
         sub: Basic,
@@ -15,13 +18,26 @@ pub enum Inclusion {
         k: u32,
     },
     /// What is in the concept has a value by the attribute. `k` is its number.
-    HasValue { sub: Basic, attr: Name, k: u32 },
+    HasValue {
+        sub: Basic,
+        attr: Name,
+        k: u32,
+    },
     /// Each pair of the first is one of the second.
-    Role { sub: RoleExpr, sup: RoleExpr },
+    Role {
+        sub: RoleExpr,
+        sup: RoleExpr,
+    },
     /// Each pair of the first is one of the second.
-    Attr { sub: Name, sup: Name },
+    Attr {
+        sub: Name,
+        sup: Name,
+    },
     /// Each value of the attribute is of the kind.
-    Range { attr: Name, kind: Kind },
+    Range {
+        attr: Name,
+        kind: Kind,
+    },
 }
 
 /// What has no member in common, or no pair `P(t,t)`.

@@ -234,7 +234,11 @@ fn reached(
 }
 
 // Adds those of the properties that stand in a set.
-fn add_within(set: &mut IndexSet<Prop>, props: &[Prop], within: &IndexSet<Prop>) -> Result<(), NoMemory>
+fn add_within(
+    set: &mut IndexSet<Prop>,
+    props: &[Prop],
+    within: &IndexSet<Prop>,
+) -> Result<(), NoMemory>
     ensures { OnOk result (set.new.keys ≡ insert_all ⟦<Prop as PartialEq>⟧.eq set.old.keys (filter (contains ⟦<Prop as PartialEq>⟧.eq within.now) props.now)) }
 {
     for prop in props {

@@ -18,14 +18,18 @@ pub enum Step {
 #[derive(Debug, PartialEq, Eq, Drop)]
 pub enum Constraint {
     /// A term has at most one filler or value by the property.
-    Functional { prop: Prop },
+    Functional {
+        prop: Prop,
+    },
     /// Two different objects of the concept do not have a common end on every path.
     Identify {
         concept: Basic,
         paths: List<List<Step>>,
     },
     /// No assignment makes every atom true.
-    Deny { atoms: List<Atom> },
+    Deny {
+        atoms: List<Atom>,
+    },
 }
 
 /// The constraints of a document in their order, with the names that they use.

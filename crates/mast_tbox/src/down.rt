@@ -73,7 +73,12 @@ fn listed(alloc: Global, atoms: &[Atom]) -> Result<List<Atom>, NoMemory>
 }
 
 // Adds the atoms that an argument is in the concepts, where the other argument is `_`.
-fn add_if_blank(set: &mut IndexSet<Atom>, other: Arg, basics: &[Basic], arg: Arg) -> Result<(), NoMemory>
+fn add_if_blank(
+    set: &mut IndexSet<Atom>,
+    other: Arg,
+    basics: &[Basic],
+    arg: Arg,
+) -> Result<(), NoMemory>
     ensures { OnOk result (set.new.keys ≡ insert_all ⟦<Atom as PartialEq>⟧.eq set.old.keys (if_blank other (map (λ b. at b arg) basics.now))) }
 {
     match other {

@@ -14,7 +14,10 @@ use mast_terms::NoMemory;
 use std::alloc::Global;
 
 /// For each basic concept, those that are directly below it.
-pub(crate) fn concepts_below(alloc: Global, inclusions: &[Inclusion]) -> Result<Groups<Basic>, NoMemory>
+pub(crate) fn concepts_below(
+    alloc: Global,
+    inclusions: &[Inclusion],
+) -> Result<Groups<Basic>, NoMemory>
     ensures { IfOk result (λ groups. (b : Basic) → found same_basic groups b ≡ directly_below inclusions.now b) }
 {
     basic_laws();
@@ -26,7 +29,11 @@ pub(crate) fn concepts_below(alloc: Global, inclusions: &[Inclusion]) -> Result<
 }
 
 // Adds what one inclusion puts directly below basic concepts.
-fn add_concepts(alloc: Global, groups: &mut Groups<Basic>, inclusion: Inclusion) -> Result<(), NoMemory>
+fn add_concepts(
+    alloc: Global,
+    groups: &mut Groups<Basic>,
+    inclusion: Inclusion,
+) -> Result<(), NoMemory>
     ensures { OnOk result ((b : Basic) → found same_basic groups.new b ≡ insert_all same_basic (found same_basic groups.old b) (firsts same_basic b (concept_pairs inclusion))) }
 {
     match inclusion {
@@ -37,7 +44,12 @@ fn add_concepts(alloc: Global, groups: &mut Groups<Basic>, inclusion: Inclusion)
         }
         Inclusion::Role { sub, sup } => {
             add_concept(alloc, groups, Basic::Some(sub), Basic::Some(sup))?;
-            add_concept(alloc, groups, Basic::Some(sub.inverse()), Basic::Some(sup.inverse()))
+            add_concept(
+                alloc,
+                groups,
+                Basic::Some(sub.inverse()),
+                Basic::Some(sup.inverse()),
+            )
         }
         Inclusion::Attr { sub, sup } => {
             add_concept(alloc, groups, Basic::Subjects(sub), Basic::Subjects(sup))
@@ -46,7 +58,12 @@ fn add_concepts(alloc: Global, groups: &mut Groups<Basic>, inclusion: Inclusion)
     }
 }
 
-fn add_concept(alloc: Global, groups: &mut Groups<Basic>, sub: Basic, sup: Basic) -> Result<(), NoMemory>
+fn add_concept(
+    alloc: Global,
+    groups: &mut Groups<Basic>,
+    sub: Basic,
+    sup: Basic,
+) -> Result<(), NoMemory>
     ensures { OnOk result ((b : Basic) → found same_basic groups.new b ≡ insert_all same_basic (found same_basic groups.old b) (firsts same_basic b ((sub, sup) ∷ []))) }
 {
     basic_laws();
@@ -72,7 +89,12 @@ fn add_props(alloc: Global, groups: &mut Groups<Prop>, inclusion: Inclusion) -> 
     match inclusion {
         Inclusion::Role { sub, sup } => {
             add_prop(alloc, groups, Prop::Role(sub), Prop::Role(sup))?;
-            add_prop(alloc, groups, Prop::Role(sub.inverse()), Prop::Role(sup.inverse()))
+            add_prop(
+                alloc,
+                groups,
+                Prop::Role(sub.inverse()),
+                Prop::Role(sup.inverse()),
+            )
         }
         Inclusion::Attr { sub, sup } => add_prop(alloc, groups, Prop::Attr(sub), Prop::Attr(sup)),
         _ => Ok(()),

@@ -79,7 +79,13 @@ fn replace_into(inclusions: &mut Vec<Inclusion>, inclusion: Inclusion) -> Result
     }
 }
 
-fn push_three(inclusions: &mut Vec<Inclusion>, sub: Basic, role: RoleExpr, end: Name, k: u32) -> Result<(), NoMemory>
+fn push_three(
+    inclusions: &mut Vec<Inclusion>,
+    sub: Basic,
+    role: RoleExpr,
+    end: Name,
+    k: u32,
+) -> Result<(), NoMemory>
     requires { k < 1000000 }
     ensures { OnOk result (inclusions.new.items ≡ inclusions.old.items ++ normal_of (Exists sub role (Some end) k)) }
 {

@@ -84,16 +84,22 @@ fn what_is_below_an_atom(rt: HostRuntime) -> Result<(), Fail> {
     let alloc = rt.alloc();
     let lines = [
         at(1, below(1, 0)),
-        at(2, Inclusion::Class {
-            sub: Basic::Some(P),
-            sup: Name(1),
-        }),
-        at(3, Inclusion::Exists {
-            sub: Basic::Class(Name(2)),
-            role: P,
-            end: Some(Name(3)),
-            k: 0,
-        }),
+        at(
+            2,
+            Inclusion::Class {
+                sub: Basic::Some(P),
+                sup: Name(1),
+            },
+        ),
+        at(
+            3,
+            Inclusion::Exists {
+                sub: Basic::Class(Name(2)),
+                role: P,
+                end: Some(Name(3)),
+                k: 0,
+            },
+        ),
         at(4, narrower(Q.inverse(), P)),
     ];
     let normal = normal(alloc, &tbox(alloc, &lines, &[])?)?;
@@ -109,8 +115,14 @@ fn what_is_below_an_atom(rt: HostRuntime) -> Result<(), Fail> {
     ];
     assert_eq!(&rt; normal.down(alloc, class(0, X))?.as_slice(), all.as_slice());
     let bound = [role(0, X, Y), role(1, Y, X), role(auxiliary, X, Y)];
-    assert_eq!(&rt; normal.down(alloc, role(0, X, Y))?.as_slice(), bound.as_slice());
-    assert_eq!(&rt; normal.below(Basic::Class(Name(3))), [Basic::Some(RoleExpr::Inverse(Name(auxiliary)))].as_slice());
+    assert_eq!(&rt;
+        normal.down(alloc, role(0, X, Y))?.as_slice(),
+        bound.as_slice()
+    );
+    assert_eq!(&rt;
+        normal.below(Basic::Class(Name(3))),
+        [Basic::Some(RoleExpr::Inverse(Name(auxiliary)))].as_slice()
+    );
     Ok(())
 }
 
@@ -132,10 +144,13 @@ fn judged(
     }
     let mut constraints = Vec::new(alloc);
     if !paths.is_empty() {
-        constraints.push(at(3, Constraint::Identify {
-            concept: Basic::Class(Name(0)),
-            paths: list,
-        }))?;
+        constraints.push(at(
+            3,
+            Constraint::Identify {
+                concept: Basic::Class(Name(0)),
+                paths: list,
+            },
+        ))?;
     }
     let breach = restriction_breach(alloc, &tbox, &constraints)?;
     assert_eq!(rt; breach, want);
@@ -184,9 +199,23 @@ fn anchors(rt: HostRuntime) -> Result<(), Fail> {
     let tested = [Step::Role(P), Step::Test(Name(1))];
     let other = [Step::Attr(Name(0))];
     let one = [at(5, narrower(Q, P.inverse()))];
-    judged(&rt, alloc, &[], &f, &[&long], by_constraint(RestrictionKind::NotLocal))?;
+    judged(
+        &rt,
+        alloc,
+        &[],
+        &f,
+        &[&long],
+        by_constraint(RestrictionKind::NotLocal),
+    )?;
     judged(&rt, alloc, &[], &f, &[&long, &tested], None)?;
-    judged(&rt, alloc, &one, &f, &[&long, &tested], by_constraint(RestrictionKind::AnchorSpecialised))?;
+    judged(
+        &rt,
+        alloc,
+        &one,
+        &f,
+        &[&long, &tested],
+        by_constraint(RestrictionKind::AnchorSpecialised),
+    )?;
     judged(&rt, alloc, &one, &f, &[&tested, &other], None)?;
     Ok(())
 }

@@ -1,4 +1,4 @@
-use Rattle.std.proofs.Common.{◌≡◌, Bool, true, sym, ap, ◌∙◌, arith, slice_get, Some}
+use Rattle.std.proofs.Common.{◌≡◌, true, sym, ap, ◌∙◌, arith, slice_get, Some}
 use Rattle.std.specs.List.{filter}
 use Rattle.indexmap.specs.IndexSet.{contains, insert_all}
 use Rattle.mast_tbox.specs.contracts.expression.PropPartialEq.TheImpl as prop

@@ -1,10 +1,10 @@
-use Rattle.std.proofs.Common.{◌≡◌, Bool, true, sym, ap, subst, ◌∙◌, Contains, ◌↔◌}
+use Rattle.std.proofs.Common.{◌≡◌, true, sym, ap, ◌∙◌}
 use Rattle.std.specs.List.{list_any}
 use Rattle.indexmap.specs.IndexMap.{get}
 use Rattle.mast_tbox.specs.contracts.expression.PropPartialEq.TheImpl as prop
 use Rattle.mast_tbox.specs.contracts.expression.PropEq.TheImpl.Laws as laws
 use Rattle.mast_tbox.specs.declared.expression.Prop.{Prop}
-use Rattle.mast_tbox.specs.Components.{noted, kept, Inside}
+use Rattle.mast_tbox.specs.Components.{noted, kept}
 use Rattle.mast_tbox.specs.Groups.{found}
 use Rattle.mast_tbox.proofs.NoteLemmas.{settles_by}
 use Rattle.mast_tbox.proofs.components.settle.Goals as goal

@@ -13,5 +13,5 @@ pub returns : goal.returns
 returns c =
     let e : basic.eq-value.it ≡ same_basic = (λ i b d. c.basic_laws.ensures.test b d i) in
     let h : OnOk c.add.result ((k : Basic) → found same_basic c.add.new.self k ≡ put same_basic c.args.groups.now c.args.sup c.args.sub k) =
-        subst (λ t. OnOk c.add.result ((k : Basic) → found t c.add.new.self k ≡ put t c.args.groups.now c.args.sup c.args.sub k)) e c.add.ensures in
+    subst (λ t. OnOk c.add.result ((k : Basic) → found t c.add.new.self k ≡ put t c.args.groups.now c.args.sup c.args.sub k)) e c.add.ensures in
     on_ok_weaker c.add.result (λ f b. f b ∙ added_one same_basic basic_same (found same_basic c.args.groups.now) c.args.sup c.args.sub b) h

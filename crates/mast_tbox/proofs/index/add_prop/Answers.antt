@@ -13,5 +13,5 @@ pub returns : goal.returns
 returns c =
     let e : prop.eq-value.it ≡ same_prop = (λ i b d. c.prop_laws.ensures.test b d i) in
     let h : OnOk c.add.result ((k : Prop) → found same_prop c.add.new.self k ≡ put same_prop c.args.groups.now c.args.sup c.args.sub k) =
-        subst (λ t. OnOk c.add.result ((k : Prop) → found t c.add.new.self k ≡ put t c.args.groups.now c.args.sup c.args.sub k)) e c.add.ensures in
+    subst (λ t. OnOk c.add.result ((k : Prop) → found t c.add.new.self k ≡ put t c.args.groups.now c.args.sup c.args.sub k)) e c.add.ensures in
     on_ok_weaker c.add.result (λ f b. f b ∙ added_one same_prop prop_same (found same_prop c.args.groups.now) c.args.sup c.args.sub b) h

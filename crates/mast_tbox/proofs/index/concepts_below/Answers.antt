@@ -1,8 +1,7 @@
-use Rattle.std.proofs.Common.{◌≡◌, ap, subst, sym, ◌∙◌, []}
+use Rattle.std.proofs.Common.{◌≡◌, ap, subst, []}
 use Rattle.std.proofs.lemmas.List.{drop_all}
 use Rattle.indexmap.specs.IndexSet.{insert_all}
 use Rattle.mast_tbox.specs.contracts.expression.BasicPartialEq.TheImpl as basic
-use Rattle.mast_tbox.specs.declared.expression.Basic.{Basic}
 use Rattle.mast_tbox.specs.Expressions.{same_basic}
 use Rattle.mast_tbox.specs.Groups.{found}
 use Rattle.mast_tbox.specs.Inclusions.{concept_pairs, pairs, firsts}
@@ -20,4 +19,4 @@ pub returns : goal.returns
 returns c = λ b.
     all_added same_basic basic_same basic_itself (firsts same_basic b (pairs concept_pairs c.args.inclusions.now)) (found same_basic c.loop-inclusion.groups b)
     (subst (λ w. insert_all same_basic (found same_basic c.loop-inclusion.groups b) (firsts same_basic b (pairs concept_pairs w)) ≡ insert_all same_basic [] (firsts same_basic b (pairs concept_pairs c.args.inclusions.now)))
-        (drop_all c.loop-inclusion.inclusion-index c.args.inclusions.now c.loop-inclusion-test.false) (c.loop-inclusion.invariant b))
+    (drop_all c.loop-inclusion.inclusion-index c.args.inclusions.now c.loop-inclusion-test.false) (c.loop-inclusion.invariant b))

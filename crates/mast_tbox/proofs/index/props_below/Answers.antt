@@ -1,8 +1,7 @@
-use Rattle.std.proofs.Common.{◌≡◌, ap, subst, sym, ◌∙◌, []}
+use Rattle.std.proofs.Common.{◌≡◌, ap, subst, []}
 use Rattle.std.proofs.lemmas.List.{drop_all}
 use Rattle.indexmap.specs.IndexSet.{insert_all}
 use Rattle.mast_tbox.specs.contracts.expression.PropPartialEq.TheImpl as prop
-use Rattle.mast_tbox.specs.declared.expression.Prop.{Prop}
 use Rattle.mast_tbox.specs.Expressions.{same_prop}
 use Rattle.mast_tbox.specs.Groups.{found}
 use Rattle.mast_tbox.specs.Inclusions.{prop_pairs, pairs, firsts}
@@ -20,4 +19,4 @@ pub returns : goal.returns
 returns c = λ b.
     all_added same_prop prop_same prop_itself (firsts same_prop b (pairs prop_pairs c.args.inclusions.now)) (found same_prop c.loop-inclusion.groups b)
     (subst (λ w. insert_all same_prop (found same_prop c.loop-inclusion.groups b) (firsts same_prop b (pairs prop_pairs w)) ≡ insert_all same_prop [] (firsts same_prop b (pairs prop_pairs c.args.inclusions.now)))
-        (drop_all c.loop-inclusion.inclusion-index c.args.inclusions.now c.loop-inclusion-test.false) (c.loop-inclusion.invariant b))
+    (drop_all c.loop-inclusion.inclusion-index c.args.inclusions.now c.loop-inclusion-test.false) (c.loop-inclusion.invariant b))

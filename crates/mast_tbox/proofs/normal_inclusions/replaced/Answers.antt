@@ -1,4 +1,4 @@
-use Rattle.std.proofs.Common.{◌≡◌, ◌++◌, ap, subst, sym, ◌∙◌, arith, length, ◌≤◌}
+use Rattle.std.proofs.Common.{◌++◌, ap, subst, sym, arith}
 use Rattle.mast_tbox.specs.Inclusions.{normal}
 use Rattle.mast_tbox.specs.Lists.{items}
 use Rattle.mast_tbox.specs.Numbers.{AllBelow, numbers}

@@ -1,4 +1,4 @@
-use Rattle.std.proofs.Common.{◌≡◌, Bool, true, Some, None, Option, sym, subst, ◌∙◌}
+use Rattle.std.proofs.Common.{◌≡◌, true, Some, sym, subst, ◌∙◌}
 use Rattle.mast_tbox.specs.contracts.expression.PropPartialEq.TheImpl as prop
 use Rattle.mast_tbox.specs.contracts.expression.PropEq.TheImpl.Laws as laws
 use Rattle.mast_tree.specs.declared.item.DocName.TheVariants.{Ontology}
@@ -15,8 +15,8 @@ returns-in-Some c =
     let o = Some (record { doc = Ontology; line = c.in-Some.line; kind = FunctSpecialised }) in
     subst (λ w. IsRestrictionBreach w c.args.tbox.now.functional c.args.constraints.now o) c.as_slice-lines.ensures
     (subst (λ w. IsRestrictionBreach c.as_slice-lines.result.now w c.args.constraints.now o) c.as_slice.ensures
-        (found_breach prop.eq-value.it laws.laws-law same c.as_slice-lines.result.now c.as_slice.result.now c.args.constraints.now (chief prop.eq-value.it c.in_ok-chiefs.chiefs) c.in_ok-chiefs.ensures
-            c.in_ok-functional.functional c.in_ok-functional.ensures c.in-Some.line (sym c.first_axiom.ensures ∙ c.in-Some.is)))
+    (found_breach prop.eq-value.it laws.laws-law same c.as_slice-lines.result.now c.as_slice.result.now c.args.constraints.now (chief prop.eq-value.it c.in_ok-chiefs.chiefs) c.in_ok-chiefs.ensures
+    c.in_ok-functional.functional c.in_ok-functional.ensures c.in-Some.line (sym c.first_axiom.ensures ∙ c.in-Some.is)))
 
 pub returns : goal.returns
 returns c =
@@ -24,5 +24,5 @@ returns c =
     let o = c.first_constraint.result in
     subst (λ w. IsRestrictionBreach w c.args.tbox.now.functional c.args.constraints.now o) c.as_slice-lines.ensures
     (subst (λ w. IsRestrictionBreach c.as_slice-lines.result.now w c.args.constraints.now o) c.as_slice.ensures
-        (judged_breach prop.eq-value.it laws.laws-law same c.as_slice-lines.result.now c.as_slice.result.now c.args.constraints.now (chief prop.eq-value.it c.in_ok-chiefs.chiefs) c.in_ok-chiefs.ensures
-            c.in_ok-functional.functional c.in_ok-functional.ensures (sym c.first_axiom.ensures ∙ c.in-None.is) c.in_ok-special-in-None.special c.in_ok-special-in-None.ensures o c.first_constraint.ensures))
+    (judged_breach prop.eq-value.it laws.laws-law same c.as_slice-lines.result.now c.as_slice.result.now c.args.constraints.now (chief prop.eq-value.it c.in_ok-chiefs.chiefs) c.in_ok-chiefs.ensures
+    c.in_ok-functional.functional c.in_ok-functional.ensures (sym c.first_axiom.ensures ∙ c.in-None.is) c.in_ok-special-in-None.special c.in_ok-special-in-None.ensures o c.first_constraint.ensures))
