@@ -1,5 +1,5 @@
 -- The numbers of the existential inclusions are less than their count.
-use Rattle.std.proofs.Common.{◌≡◌, ℕ, suc, ◌+◌, ◌≤◌, ◌<◌, ◌⊎◌, inl, inr, Option, Some, None, Contains, ap, ◌∙◌, List, [], ◌∷◌, ◌++◌, length, drop, slice_index_or, refl, sym, subst, arith}
+use Rattle.std.proofs.Common.{append_assoc, append-nil, ◌≡◌, ℕ, suc, ◌+◌, ◌≤◌, ◌<◌, ◌⊎◌, inl, inr, Option, Some, None, Contains, ap, ◌∙◌, List, [], ◌∷◌, ◌++◌, length, drop, slice_index_or, refl, sym, subst, arith}
 use Rattle.std.proofs.lemmas.List.{drop_more}
 use Rattle.std.proofs.lemmas.List.Elements.{Contains-append_cases}
 use Rattle.mast_terms.specs.declared.name.Name.{Name}
@@ -177,3 +177,27 @@ no_end_of (Range u kind) i c = absurd (none i c)
 
 pub no_end : (tbox : List Inclusion) (b : Basic) (r : RoleExpr) (end : Option Name) (k : ℕ) → Contains (normal tbox) (Exists b r end k) → end ≡ None
 no_end tbox b r end k c = let w = source_of tbox (Exists b r end k) c in no_end_of w.stated (Exists b r end k) w.gives
+
+-- one inclusion more keeps the numbering, if it has no number or the next one
+numbers_join : (ls ms : List (Lined Inclusion)) → numbers (ls ++ ms) ≡ numbers ls ++ numbers ms
+numbers_join [] ms = refl
+numbers_join (l ∷ ls) ms = ap (λ w. number_of l.item ++ w) (numbers_join ls ms) ∙ sym (append_assoc (number_of l.item) (numbers ls) (numbers ms))
+
+counted_push : (n k : ℕ) (ks : List ℕ) → k ≡ n + length ks → counted n (ks ++ k ∷ []) ≡ counted n ks ++ k ∷ []
+counted_push n k [] e = let f : n ≡ k = omega arith in ap (λ w. w ∷ []) f
+counted_push n k (j ∷ ks) e = ap (λ w. n ∷ w) (counted_push (suc n) k ks (omega arith))
+
+numbers_push : (ls : List (Lined Inclusion)) (l : Lined Inclusion) → numbers (ls ++ l ∷ []) ≡ numbers ls ++ number_of l.item
+numbers_push ls l = numbers_join ls (l ∷ []) ∙ ap (λ w. numbers ls ++ w) (append-nil (number_of l.item))
+
+pub numbered_plain : (ls : List (Lined Inclusion)) (l : Lined Inclusion) → number_of l.item ≡ [] → numbers (ls ++ l ∷ []) ≡ numbers ls
+numbered_plain ls l e = numbers_push ls l ∙ (ap (λ w. numbers ls ++ w) e ∙ append-nil (numbers ls))
+
+pub numbered_none : (ls : List (Lined Inclusion)) → numbers ls ≡ [] → IsNumbered ls
+numbered_none ls e = subst (λ w. w ≡ counted 0 w) (sym e) refl
+
+pub numbered_next : (ls : List (Lined Inclusion)) (l : Lined Inclusion) → IsNumbered ls → number_of l.item ≡ length (numbers ls) ∷ [] → IsNumbered (ls ++ l ∷ [])
+numbered_next ls l h e =
+    let p : numbers (ls ++ l ∷ []) ≡ numbers ls ++ length (numbers ls) ∷ [] = numbers_push ls l ∙ ap (λ w. numbers ls ++ w) e in
+    subst (λ w. w ≡ counted 0 w) (sym p)
+    (ap (λ w. w ++ length (numbers ls) ∷ []) h ∙ sym (counted_push 0 (length (numbers ls)) (numbers ls) (omega arith)))

@@ -1,15 +1,14 @@
 //! Worked TBoxes, with what they give.
 ghost use Rattle.std.specs.Prelude.{◌≡◌, ◌+◌, ◌≤◌, length, IfOk};
-ghost use Rattle.mast_tbox.specs.Numbers.{IsNumbered};
 
 use crate::{
-    Basic, Constraint, Inclusion, Lined, NormalTBox, Prop, RestrictionBreach, RestrictionKind,
-    RoleExpr, Step, TBox, normal, restriction_breach,
+    Basic, Constraint, Inclusion, Lined, Prop, RestrictionBreach, RestrictionKind, RoleExpr, Step,
+    TBox, normal, restriction_breach,
 };
 use mast_cq::{Arg, Atom};
-use mast_terms::{List, Name};
+use mast_terms::{List, Name, NoMemory};
 use mast_tree::DocName;
-use std::alloc::{AllocError, Global};
+use std::alloc::Global;
 use std::process::Abort;
 use std::test::Fail;
 
@@ -40,75 +39,82 @@ fn role(name: u32, from: Arg, to: Arg) -> Atom {
     }
 }
 
-fn below(sub: u32, sup: u32) -> Inclusion {
-    Inclusion::Class {
-        sub: Basic::Class(Name(sub)),
-        sup: Name(sup),
-    }
-}
-
-fn narrower(sub: RoleExpr, sup: RoleExpr) -> Inclusion {
-    Inclusion::Role { sub, sup }
-}
-
-fn copied<T: Copy + Drop>(alloc: Global, items: &[T]) -> Result<List<T>, AllocError>
+fn copied<T: Copy + Drop>(alloc: Global, items: &[T]) -> Result<List<T>, NoMemory>
     ensures { IfOk result (λ list. list ≡ items.now) }
 {
     let copy = items.iter().copied().collect(alloc)?;
     Ok(List::from_vec(copy))
 }
 
-fn tbox(
+fn at<T>(line: u32, item: T) -> Lined<T> {
+    Lined { line, item }
+}
+
+// The first role expression of each pair is below the second.
+fn roles(
     alloc: Global,
-    inclusions: &[Lined<Inclusion>],
+    lines: &[Lined<[RoleExpr; 2]>],
     functional: &[Lined<Prop>],
-) -> Result<TBox, AllocError>
-    requires numbered { IsNumbered inclusions.now }
-    requires bounded { length inclusions.now + length functional.now ≤ 1000 }
+) -> Result<TBox, NoMemory>
+    requires { length lines.now + length functional.now ≤ 1000 }
 {
+    let mut inclusions = Vec::new(alloc);
+    for line in lines {
+        let [sub, sup] = line.item;
+        inclusions.push(Lined {
+            line: line.line,
+            item: Inclusion::Role { sub, sup },
+        })?;
+    }
     Ok(TBox {
-        inclusions: copied(alloc, inclusions)?,
+        inclusions: List::from_vec(inclusions),
         negatives: List::new(alloc),
         functional: copied(alloc, functional)?,
     })
 }
 
-fn at<T>(line: u32, item: T) -> Lined<T>
-    ensures { result ≡ record { line = line; item = item } }
-{
-    Lined { line, item }
+// The range of a role is a class with a filler by it, and the inverse of another role is below it.
+fn teaching(alloc: Global) -> Result<TBox, NoMemory> {
+    let mut inclusions = Vec::new(alloc);
+    inclusions.push(Lined {
+        line: 1,
+        item: Inclusion::Class {
+            sub: Basic::Some(P),
+            sup: Name(0),
+        },
+    })?;
+    inclusions.push(Lined {
+        line: 2,
+        item: Inclusion::Exists {
+            sub: Basic::Class(Name(1)),
+            role: P,
+            end: Some(Name(2)),
+            k: 0,
+        },
+    })?;
+    inclusions.push(Lined {
+        line: 3,
+        item: Inclusion::Role {
+            sub: RoleExpr::Inverse(Name(1)),
+            sup: P,
+        },
+    })?;
+    Ok(TBox {
+        inclusions: List::from_vec(inclusions),
+        negatives: List::new(alloc),
+        functional: List::new(alloc),
+    })
 }
 
 #[test]
 fn what_is_below_an_atom(rt: HostRuntime) -> Result<(), Fail> {
     let alloc = rt.alloc();
-    let lines = [
-        at(1, below(1, 0)),
-        at(
-            2,
-            Inclusion::Class {
-                sub: Basic::Some(P),
-                sup: Name(1),
-            },
-        ),
-        at(
-            3,
-            Inclusion::Exists {
-                sub: Basic::Class(Name(2)),
-                role: P,
-                end: Some(Name(3)),
-                k: 0,
-            },
-        ),
-        at(4, narrower(Q.inverse(), P)),
-    ];
-    let normal = normal(alloc, &tbox(alloc, &lines, &[])?)?;
-    assert_eq!(&rt; normal.inclusions().len(), 6);
+    let normal = normal(alloc, &teaching(alloc)?)?;
+    assert_eq!(&rt; normal.inclusions().len(), 5);
     let auxiliary = 65_536;
     let all = [
         class(0, X),
         class(1, X),
-        class(2, X),
         role(0, X, NONE),
         role(1, NONE, X),
         role(auxiliary, X, NONE),
@@ -120,7 +126,7 @@ fn what_is_below_an_atom(rt: HostRuntime) -> Result<(), Fail> {
         bound.as_slice()
     );
     assert_eq!(&rt;
-        normal.below(Basic::Class(Name(3))),
+        normal.below(Basic::Class(Name(2))),
         [Basic::Some(RoleExpr::Inverse(Name(auxiliary)))].as_slice()
     );
     Ok(())
@@ -129,15 +135,14 @@ fn what_is_below_an_atom(rt: HostRuntime) -> Result<(), Fail> {
 fn judged(
     rt: &impl Abort,
     alloc: Global,
-    inclusions: &[Lined<Inclusion>],
+    inclusions: &[Lined<[RoleExpr; 2]>],
     functional: &[Lined<Prop>],
     paths: &[&[Step]],
     want: Option<RestrictionBreach>,
 ) -> Result<(), Fail>
-    requires numbered { IsNumbered inclusions.now }
-    requires bounded { length inclusions.now + length functional.now ≤ 1000 }
+    requires { length inclusions.now + length functional.now ≤ 1000 }
 {
-    let tbox = tbox(alloc, inclusions, functional)?;
+    let tbox = roles(alloc, inclusions, functional)?;
     let mut list = List::new(alloc);
     for path in paths {
         list.push(alloc, copied(alloc, *path)?)?;
@@ -177,14 +182,14 @@ fn by_constraint(kind: RestrictionKind) -> Option<RestrictionBreach> {
 fn functional_properties(rt: HostRuntime) -> Result<(), Fail> {
     let alloc = rt.alloc();
     let f = [at(1, Prop::Role(P))];
-    let one = [at(5, narrower(Q, P)), at(4, narrower(R, P))];
+    let one = [at(5, [Q, P]), at(4, [R, P])];
     judged(&rt, alloc, &one, &f, &[], by_axiom(5))?;
-    let same = [at(5, narrower(Q, P)), at(6, narrower(P, Q))];
+    let same = [at(5, [Q, P]), at(6, [P, Q])];
     judged(&rt, alloc, &same, &f, &[], None)?;
     let turned = [
-        at(4, narrower(Q.inverse(), P)),
-        at(4, narrower(P, Q.inverse())),
-        at(5, narrower(R, Q)),
+        at(4, [Q.inverse(), P]),
+        at(4, [P, Q.inverse()]),
+        at(5, [R, Q]),
     ];
     judged(&rt, alloc, &turned[..2], &f, &[], None)?;
     judged(&rt, alloc, &turned, &f, &[], by_axiom(5))?;
@@ -198,7 +203,7 @@ fn anchors(rt: HostRuntime) -> Result<(), Fail> {
     let long = [Step::Role(P), Step::Attr(Name(0))];
     let tested = [Step::Role(P), Step::Test(Name(1))];
     let other = [Step::Attr(Name(0))];
-    let one = [at(5, narrower(Q, P.inverse()))];
+    let one = [at(5, [Q, P.inverse()])];
     judged(
         &rt,
         alloc,
