@@ -140,7 +140,7 @@ module _ (tbox : List Inclusion) where
   subject_pairs (IAttr u v) p q g = subst (λ w. Contains (concept_pairs (IAttr u v)) (subjects w.0, subjects w.1)) (sym (only_one (PAttr u, PAttr v) (p, q) g)) (front (Subjects u, Subjects v) [])
   subject_pairs (Range u kind) p q g = absurd (none (p, q) g)
 
-  directly_pair : (c b : Basic) → IsDirectlyBelow tbox c b → PairOf concept_pairs tbox (c, b)
+  pub directly_pair : (c b : Basic) → IsDirectlyBelow tbox c b → PairOf concept_pairs tbox (c, b)
   directly_pair c b (IsDirectlyBelow.by_class a s e) = subst (λ w. PairOf concept_pairs tbox (c, w)) (sym e) (record { inclusion = IClass c a; stands = s; gives = front (c, BClass a) [] })
   directly_pair c b (IsDirectlyBelow.by_filler p k a e) = subst (λ w. PairOf concept_pairs tbox (c, w)) (sym e) (adds_pair p k c a)
   directly_pair c b (IsDirectlyBelow.by_property p q l f e) =

@@ -11,3 +11,4 @@ pub mod NoteLemmas
 pub mod ComponentLemmas
 pub mod RoundLemmas
 pub mod JudgeLemmas
+pub mod DecideLemmas

@@ -1,5 +1,5 @@
 //! What numbers, properties and the closure of an atom are, as laws that no code calls.
-ghost use Rattle.std.specs.Prelude.{◌≡◌, ℕ, Bool, true, None, Option, List, [], ◌∷◌, Contains, ◌↔◌};
+ghost use Rattle.std.specs.Prelude.{◌≡◌, ℕ, Bool, true, None, Option, List, [], ◌∷◌, Contains, ◌↔◌, ◌⊎◌};
 ghost use Rattle.mast_terms.specs.declared.name.Name.{Name};
 ghost use Rattle.mast_cq.specs.declared.atom.Atom.{Atom};
 ghost use Rattle.mast_tbox.specs.Closure.{AtomStep, Down};
@@ -29,12 +29,14 @@ pub fn below_law()
     ensures { (tbox : List Inclusion) (b c : Basic) → Contains (directly_below tbox b) c ↔ IsDirectlyBelow tbox c b }
 {}
 
-/// `Down` of an atom holds the atom, is closed under the steps by inclusions, and is the least such set.
+/// `Down` of an atom holds the atom, is closed under the steps by inclusions, and is the least such set. Whether an atom
+/// stands in it is decided.
 pub fn down_law()
     ensures itself { (tbox : List Inclusion) (g : Atom) → Down tbox g g }
     ensures closed { (tbox : List Inclusion) (g : Atom) → IsClosed tbox (Down tbox g) }
     ensures least { (tbox : List Inclusion) (g h : Atom) (set : Atom → Bool) → set g ≡ true → IsClosed tbox (Has set) → Down tbox g h → set h ≡ true }
     ensures joined { (tbox : List Inclusion) (g h i : Atom) → Down tbox g h → Down tbox h i → Down tbox g i }
+    ensures decided { (tbox : List Inclusion) (g h : Atom) → Down tbox g h ⊎ (Down tbox g h → ⊥) }
 {}
 
 /// Being below is reflexive and transitive and goes over to inverses. So being equivalent is, and it is symmetric.

@@ -1,6 +1,7 @@
 use Rattle.mast_tbox.specs.Laws.{Has}
 use Rattle.mast_tbox.specs.Lists.{itself}
 use Rattle.mast_tbox.proofs.WorkLemmas.{reaches_join, reaches_more, reaches_least}
+use Rattle.mast_tbox.proofs.DecideLemmas.{down_decided}
 use Rattle.mast_tbox.proofs.laws.down_law.Goals as goal
 
 pub returns : goal.returns
@@ -8,5 +9,6 @@ returns c = record {
   itself = λ tbox g. itself;
   closed = λ tbox g x y r s. reaches_more g x y r s;
   least = λ tbox g h set p closed r. reaches_least (Has set) closed g h p r;
+  decided = down_decided;
   joined = λ tbox g h i r s. reaches_join g h i r s;
 }
