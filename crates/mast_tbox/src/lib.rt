@@ -1,6 +1,6 @@
 //! Axioms and constraints, the normal inclusions, what is below an atom, and the restrictions.
 //! What the crates above rest on: `normal` gives the normal inclusions, `down` all of `Down` of an atom, `restriction_breach` the first breach.
-//! The words of its contracts stand in specs/Expressions.antt, specs/Inclusions.antt, specs/Closure.antt and specs/Restrictions.antt.
+//! The words of its contracts stand in specs/Inclusions.antt, specs/Numbers.antt, specs/Closure.antt, specs/Properties.antt and specs/Restrictions.antt.
 //! It must not know how documents are read, nor of facts, queries with several atoms, or the meaning of an inclusion.
 #![tactic(auto)]
 

@@ -106,11 +106,15 @@ fn teaching(alloc: Global) -> Result<TBox, NoMemory> {
     })
 }
 
+// Workers share what is lent to it.
+fn shared<T: Sync>(_: &T) {}
+
 #[test]
 fn what_is_below_an_atom(rt: HostRuntime) -> Result<(), Fail> {
     let alloc = rt.alloc();
     let normal = normal(alloc, &teaching(alloc)?)?;
     assert_eq!(&rt; normal.inclusions().len(), 5);
+    shared(&normal);
     let auxiliary = 65_536;
     let all = [
         class(0, X),

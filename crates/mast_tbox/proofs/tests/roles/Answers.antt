@@ -1,4 +1,4 @@
-use Rattle.std.proofs.Common.{◌≡◌, [], length, ap, subst, sym, refl, ◌∙◌, ◌++◌, ◌∷◌, ◌+◌, arith, length-append}
+use Rattle.std.proofs.Common.{length, ap, refl, ◌∙◌, arith, length-append}
 use Rattle.mast_tbox.specs.Numbers.{numbers}
 use Rattle.mast_tbox.proofs.NumberLemmas.{numbered_plain}
 use Rattle.mast_tbox.proofs.tests.roles.Goals as goal
