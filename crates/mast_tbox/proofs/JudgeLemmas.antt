@@ -33,13 +33,13 @@ use Rattle.mast_tbox.proofs.ComponentLemmas.{equivalent_turned}
 
 module _ (tbox : List Inclusion) where
   -- what leads from one property to another leads between their inverses
-  leads_inverse : (p q : Prop) → Leads tbox p q → Leads tbox (inverse p) (inverse q)
-  leads_inverse p q (inl s) = inr (subst (λ w. States tbox w (inverse (inverse q))) (sym (inverse_twice p)) (subst (States tbox p) (sym (inverse_twice q)) s))
-  leads_inverse p q (inr s) = inl s
+  inverses_lead : (p q : Prop) → Leads tbox p q → Leads tbox (inverse p) (inverse q)
+  inverses_lead p q (inl s) = inr (subst (λ w. States tbox w (inverse (inverse q))) (sym (inverse_twice p)) (subst (States tbox p) (sym (inverse_twice q)) s))
+  inverses_lead p q (inr s) = inl s
 
   pub below_inverse : (p q : Prop) → IsBelow tbox p q → IsBelow tbox (inverse p) (inverse q)
   below_inverse p q itself = itself
-  below_inverse p q (onward {y = y} l d) = onward (leads_inverse p y l) (below_inverse y q d)
+  below_inverse p q (onward {y = y} l d) = onward (inverses_lead p y l) (below_inverse y q d)
 
   pub equivalent_inverse : (p q : Prop) → AreEquivalent tbox p q → AreEquivalent tbox (inverse p) (inverse q)
   equivalent_inverse p q e = (below_inverse p q e.0, below_inverse q p e.1)
@@ -48,6 +48,15 @@ module _ (tbox : List Inclusion) where
   like_turned : (p q : Prop) → IsLike tbox p q → IsLike tbox q p
   like_turned p q (inl e) = inl (equivalent_turned tbox p q e)
   like_turned p q (inr e) = inr (subst (λ w. AreEquivalent tbox w (inverse p)) (inverse_twice q) (equivalent_turned tbox (inverse p) (inverse (inverse q)) (equivalent_inverse p (inverse q) e)))
+
+-- a property that is put first, and one of the rest
+made_first : (o : Option Prop) (ps : List Prop) (q : Prop) → o ≡ Some q → Contains (with_first o ps) q
+made_first None ps q e = cc
+made_first (Some p) ps q e = let g : p ≡ q = cc in subst (Contains (p ∷ ps)) g (front p ps)
+
+made_rest : (o : Option Prop) (ps : List Prop) (q : Prop) → Contains ps q → Contains (with_first o ps) q
+made_rest None ps q c = c
+made_rest (Some p) ps q c = later q p ps c
 
 -- some property of the list is like the one
 abbrev pub LikeSome : List Inclusion → List Prop → Prop → Type 0
@@ -142,19 +151,11 @@ module _ (eq : Prop → Prop → Bool) (laws : IsEquivalence eq) (same : (x y : 
   narrowed_from [] q c = absurd (none q c)
   narrowed_from (l ∷ ls) q c = narrowed_case l ls q (narrowed eq f l.item) refl (narrowed_from ls q) c
 
-  first_has : (o : Option Prop) (ps : List Prop) (q : Prop) → o ≡ Some q → Contains (with_first o ps) q
-  first_has None ps q e = cc
-  first_has (Some p) ps q e = let g : p ≡ q = cc in subst (Contains (p ∷ ps)) g (front p ps)
-
-  rest_has : (o : Option Prop) (ps : List Prop) (q : Prop) → Contains ps q → Contains (with_first o ps) q
-  rest_has None ps q c = c
-  rest_has (Some p) ps q c = later q p ps c
-
   narrowed_has : (ls : List (Lined Inclusion)) (i : Inclusion) (q : Prop) → Contains (items ls) i → narrowed eq f i ≡ Some q → Contains (all_narrowed eq f ls) q
   narrowed_has [] i q c e = absurd (none i c)
   narrowed_has (l ∷ ls) i q c e = elim (first_or l.item (items ls) i c) [
-    | inl g ↦ first_has (narrowed eq f l.item) (all_narrowed eq f ls) q (ap (narrowed eq f) (sym g) ∙ e)
-    | inr d ↦ rest_has (narrowed eq f l.item) (all_narrowed eq f ls) q (narrowed_has ls i q d e)
+    | inl g ↦ made_first (narrowed eq f l.item) (all_narrowed eq f ls) q (ap (narrowed eq f) (sym g) ∙ e)
+    | inr d ↦ made_rest (narrowed eq f l.item) (all_narrowed eq f ls) q (narrowed_has ls i q d e)
   ]
 
 -- a property is functional exactly where it stands in the two lists
@@ -174,14 +175,6 @@ functional_case l ls p (Some q) e ih c = elim (first_or q (functionals ls) p c) 
 functionals_from : (ls : List (Lined Constraint)) (p : Prop) → Contains (functionals ls) p → Contains (items ls) (Functional p)
 functionals_from [] p c = absurd (none p c)
 functionals_from (l ∷ ls) p c = functional_case l ls p (made_functional l.item) refl (functionals_from ls p) c
-
-made_first : (o : Option Prop) (ps : List Prop) (q : Prop) → o ≡ Some q → Contains (with_first o ps) q
-made_first None ps q e = cc
-made_first (Some p) ps q e = let g : p ≡ q = cc in subst (Contains (p ∷ ps)) g (front p ps)
-
-made_rest : (o : Option Prop) (ps : List Prop) (q : Prop) → Contains ps q → Contains (with_first o ps) q
-made_rest None ps q c = c
-made_rest (Some p) ps q c = later q p ps c
 
 functionals_has : (ls : List (Lined Constraint)) (p : Prop) → Contains (items ls) (Functional p) → Contains (functionals ls) p
 functionals_has [] p c = absurd (none (Functional p) c)

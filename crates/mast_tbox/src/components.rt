@@ -201,7 +201,7 @@ fn settle(
     chiefs: &mut IndexMap<Prop, Prop>,
     root: Prop,
 ) -> Result<(), NoMemory>
-    ensures { OnOk result (Settles (found ⟦<Prop as PartialEq>⟧.eq below.now) (found ⟦<Prop as PartialEq>⟧.eq above.now) free.old.keys (get ⟦<Prop as PartialEq>⟧.eq chiefs.old) root free.new.keys (get ⟦<Prop as PartialEq>⟧.eq chiefs.new)) }
+    ensures { let same = ⟦<Prop as PartialEq>⟧.eq in OnOk result (Settles (found same below.now) (found same above.now) free.old.keys (get same chiefs.old) root free.new.keys (get same chiefs.new)) }
 {
     prop_laws();
     let under = reached(alloc, below, free, root)?;
@@ -239,7 +239,7 @@ fn add_within(
     props: &[Prop],
     within: &IndexSet<Prop>,
 ) -> Result<(), NoMemory>
-    ensures { OnOk result (set.new.keys ≡ insert_all ⟦<Prop as PartialEq>⟧.eq set.old.keys (filter (contains ⟦<Prop as PartialEq>⟧.eq within.now) props.now)) }
+    ensures { let same = ⟦<Prop as PartialEq>⟧.eq in OnOk result (set.new.keys ≡ insert_all same set.old.keys (filter (contains same within.now) props.now)) }
 {
     for prop in props {
         if within.contains(prop) {
@@ -256,8 +256,8 @@ fn note(
     props: &[Prop],
     root: Prop,
 ) -> Result<(), NoMemory>
-    ensures noted { OnOk result ((p : Prop) → get ⟦<Prop as PartialEq>⟧.eq chiefs.new p ≡ noted ⟦<Prop as PartialEq>⟧.eq root props.now p (get ⟦<Prop as PartialEq>⟧.eq chiefs.old p)) }
-    ensures closed { OnOk result ((p : Prop) → contains ⟦<Prop as PartialEq>⟧.eq free.new p ≡ kept ⟦<Prop as PartialEq>⟧.eq props.now p (contains ⟦<Prop as PartialEq>⟧.eq free.old p)) }
+    ensures noted { let same = ⟦<Prop as PartialEq>⟧.eq in OnOk result ((p : Prop) → get same chiefs.new p ≡ noted same root props.now p (get same chiefs.old p)) }
+    ensures closed { let same = ⟦<Prop as PartialEq>⟧.eq in OnOk result ((p : Prop) → contains same free.new p ≡ kept same props.now p (contains same free.old p)) }
 {
     for prop in props {
         chiefs.insert(*prop, root)?;

@@ -70,7 +70,7 @@ fn functional(
     lines: &[Lined<Prop>],
     constraints: &[Lined<Constraint>],
 ) -> Result<IndexSet<Prop>, NoMemory>
-    ensures { IfOk result (λ set. set.keys ≡ insert_all ⟦<Prop as PartialEq>⟧.eq (insert_all ⟦<Prop as PartialEq>⟧.eq [] (map (chief_of ⟦<Prop as PartialEq>⟧.eq chiefs.now) (items lines.now))) (map (chief_of ⟦<Prop as PartialEq>⟧.eq chiefs.now) (functionals constraints.now))) }
+    ensures { let same = ⟦<Prop as PartialEq>⟧.eq in let f = chief_of same chiefs.now in IfOk result (λ set. set.keys ≡ insert_all same (insert_all same [] (map f (items lines.now))) (map f (functionals constraints.now))) }
 {
     let mut set = by_axioms(alloc, chiefs, lines)?;
     add_by_constraints(&mut set, chiefs, constraints)?;
@@ -82,7 +82,7 @@ fn by_axioms(
     chiefs: &IndexMap<Prop, Prop>,
     lines: &[Lined<Prop>],
 ) -> Result<IndexSet<Prop>, NoMemory>
-    ensures { IfOk result (λ set. set.keys ≡ insert_all ⟦<Prop as PartialEq>⟧.eq [] (map (chief_of ⟦<Prop as PartialEq>⟧.eq chiefs.now) (items lines.now))) }
+    ensures { let same = ⟦<Prop as PartialEq>⟧.eq in let f = chief_of same chiefs.now in IfOk result (λ set. set.keys ≡ insert_all same [] (map f (items lines.now))) }
 {
     let mut set = IndexSet::new(alloc);
     for line in lines {
@@ -96,7 +96,7 @@ fn add_by_constraints(
     chiefs: &IndexMap<Prop, Prop>,
     constraints: &[Lined<Constraint>],
 ) -> Result<(), NoMemory>
-    ensures { OnOk result (set.new.keys ≡ insert_all ⟦<Prop as PartialEq>⟧.eq set.old.keys (map (chief_of ⟦<Prop as PartialEq>⟧.eq chiefs.now) (functionals constraints.now))) }
+    ensures { let same = ⟦<Prop as PartialEq>⟧.eq in let f = chief_of same chiefs.now in OnOk result (set.new.keys ≡ insert_all same set.old.keys (map f (functionals constraints.now))) }
 {
     for line in constraints {
         add_chief(set, chiefs, made_functional(&line.item))?;
@@ -118,7 +118,7 @@ fn add_chief(
     chiefs: &IndexMap<Prop, Prop>,
     prop: Option<Prop>,
 ) -> Result<(), NoMemory>
-    ensures { OnOk result (set.new.keys ≡ insert_all ⟦<Prop as PartialEq>⟧.eq set.old.keys (map (chief_of ⟦<Prop as PartialEq>⟧.eq chiefs.now) (with_first prop []))) }
+    ensures { let same = ⟦<Prop as PartialEq>⟧.eq in let f = chief_of same chiefs.now in OnOk result (set.new.keys ≡ insert_all same set.old.keys (map f (with_first prop []))) }
 {
     if let Some(found) = prop {
         set.insert(chief(chiefs, found))?;
@@ -132,7 +132,7 @@ fn specialised(
     chiefs: &IndexMap<Prop, Prop>,
     lines: &[Lined<Inclusion>],
 ) -> Result<IndexSet<Prop>, NoMemory>
-    ensures { IfOk result (λ set. set.keys ≡ insert_all ⟦<Prop as PartialEq>⟧.eq [] (map (chief_of ⟦<Prop as PartialEq>⟧.eq chiefs.now) (all_narrowed ⟦<Prop as PartialEq>⟧.eq (chief_of ⟦<Prop as PartialEq>⟧.eq chiefs.now) lines.now))) }
+    ensures { let same = ⟦<Prop as PartialEq>⟧.eq in let f = chief_of same chiefs.now in IfOk result (λ set. set.keys ≡ insert_all same [] (map f (all_narrowed same f lines.now))) }
 {
     let mut set = IndexSet::new(alloc);
     for line in lines {
@@ -143,7 +143,7 @@ fn specialised(
 
 // The property that an inclusion specialises, among others that are equivalent to it or to its inverse.
 fn narrowed(chiefs: &IndexMap<Prop, Prop>, inclusion: Inclusion) -> Option<Prop>
-    ensures { result ≡ narrowed_of ⟦<Prop as PartialEq>⟧.eq (chief_of ⟦<Prop as PartialEq>⟧.eq chiefs.now) inclusion }
+    ensures { let same = ⟦<Prop as PartialEq>⟧.eq in let f = chief_of same chiefs.now in result ≡ narrowed_of same f inclusion }
 {
     match inclusion {
         Inclusion::Exists {
@@ -171,7 +171,7 @@ fn narrowed(chiefs: &IndexMap<Prop, Prop>, inclusion: Inclusion) -> Option<Prop>
 
 // Whether a property or its inverse is equivalent to one whose chief stands in the set.
 fn is_like(chiefs: &IndexMap<Prop, Prop>, set: &IndexSet<Prop>, prop: Prop) -> bool
-    ensures { result ≡ is_like_of ⟦<Prop as PartialEq>⟧.eq (chief_of ⟦<Prop as PartialEq>⟧.eq chiefs.now) set.now prop }
+    ensures { let same = ⟦<Prop as PartialEq>⟧.eq in let f = chief_of same chiefs.now in result ≡ is_like_of same f set.now prop }
 {
     stands(set, chief(chiefs, prop)) || stands(set, chief(chiefs, prop.inverse()))
 }
@@ -188,7 +188,7 @@ fn first_axiom(
     functional: &IndexSet<Prop>,
     lines: &[Lined<Inclusion>],
 ) -> Option<u32>
-    ensures { result ≡ first_line (λ i. passes (is_like_of ⟦<Prop as PartialEq>⟧.eq (chief_of ⟦<Prop as PartialEq>⟧.eq chiefs.now) functional.now) (narrowed_of ⟦<Prop as PartialEq>⟧.eq (chief_of ⟦<Prop as PartialEq>⟧.eq chiefs.now) i)) lines.now }
+    ensures { let same = ⟦<Prop as PartialEq>⟧.eq in let f = chief_of same chiefs.now in result ≡ first_line (λ i. passes (is_like_of same f functional.now) (narrowed_of same f i)) lines.now }
 {
     for line in lines {
         if specialises(chiefs, functional, line.item) {
@@ -203,7 +203,7 @@ fn specialises(
     functional: &IndexSet<Prop>,
     inclusion: Inclusion,
 ) -> bool
-    ensures { result ≡ passes (is_like_of ⟦<Prop as PartialEq>⟧.eq (chief_of ⟦<Prop as PartialEq>⟧.eq chiefs.now) functional.now) (narrowed_of ⟦<Prop as PartialEq>⟧.eq (chief_of ⟦<Prop as PartialEq>⟧.eq chiefs.now) inclusion) }
+    ensures { let same = ⟦<Prop as PartialEq>⟧.eq in let f = chief_of same chiefs.now in result ≡ passes (is_like_of same f functional.now) (narrowed_of same f inclusion) }
 {
     match narrowed(chiefs, inclusion) {
         Some(prop) => is_like(chiefs, functional, prop),
@@ -217,7 +217,7 @@ fn first_constraint(
     special: &IndexSet<Prop>,
     constraints: &[Lined<Constraint>],
 ) -> Option<RestrictionBreach>
-    ensures { result ≡ first_judged (is_like_of ⟦<Prop as PartialEq>⟧.eq (chief_of ⟦<Prop as PartialEq>⟧.eq chiefs.now) special.now) constraints.now }
+    ensures { let same = ⟦<Prop as PartialEq>⟧.eq in let f = chief_of same chiefs.now in result ≡ first_judged (is_like_of same f special.now) constraints.now }
 {
     for constraint in constraints {
         if let Some(kind) = breach_kind(chiefs, special, &constraint.item) {
@@ -237,7 +237,7 @@ fn breach_kind(
     special: &IndexSet<Prop>,
     constraint: &Constraint,
 ) -> Option<RestrictionKind>
-    ensures { result ≡ breach_kind_of (is_like_of ⟦<Prop as PartialEq>⟧.eq (chief_of ⟦<Prop as PartialEq>⟧.eq chiefs.now) special.now) constraint.now }
+    ensures { let same = ⟦<Prop as PartialEq>⟧.eq in let f = chief_of same chiefs.now in result ≡ breach_kind_of (is_like_of same f special.now) constraint.now }
 {
     match constraint {
         Constraint::Identify { paths, .. } => judge(chiefs, special, paths.as_slice()),
@@ -251,7 +251,7 @@ fn judge(
     special: &IndexSet<Prop>,
     paths: &[List<Step>],
 ) -> Option<RestrictionKind>
-    ensures { result ≡ judged (is_like_of ⟦<Prop as PartialEq>⟧.eq (chief_of ⟦<Prop as PartialEq>⟧.eq chiefs.now) special.now) false (anchors paths.now) }
+    ensures { let same = ⟦<Prop as PartialEq>⟧.eq in let f = chief_of same chiefs.now in result ≡ judged (is_like_of same f special.now) false (anchors paths.now) }
 {
     let mut local = false;
     for path in paths {
