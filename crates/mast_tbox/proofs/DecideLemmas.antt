@@ -109,7 +109,7 @@ same_case g h Equal e = inl (order_equal g h e)
 same_case g h Less e = inr (unlike g h Less e (λ f. cc))
 same_case g h Greater e = inr (unlike g h Greater e (λ f. cc))
 
-same_atom : (g h : Atom) → (g ≡ h) ⊎ (g ≡ h → ⊥)
+pub same_atom : (g h : Atom) → (g ≡ h) ⊎ (g ≡ h → ⊥)
 same_atom g h = same_case g h (atom_order g h) refl
 
 stands_case : (x : Atom) (ys : List Atom) (y : Atom) → (y ≡ x) ⊎ (y ≡ x → ⊥) → Contains ys y ⊎ (Contains ys y → ⊥) → Contains (x ∷ ys) y ⊎ (Contains (x ∷ ys) y → ⊥)
@@ -117,11 +117,11 @@ stands_case x ys y (inl e) d = inl (rw e (front x ys))
 stands_case x ys y (inr n) (inl c) = inl (later y x ys c)
 stands_case x ys y (inr n) (inr m) = inr (λ c. elim (first_or x ys y c) [ inl e ↦ n e | inr i ↦ m i ])
 
-stands_in : (xs : List Atom) (y : Atom) → Contains xs y ⊎ (Contains xs y → ⊥)
+pub stands_in : (xs : List Atom) (y : Atom) → Contains xs y ⊎ (Contains xs y → ⊥)
 stands_in [] y = inr (none y)
 stands_in (x ∷ xs) y = stands_case x xs y (same_atom y x) (stands_in xs y)
 
-step_decided : (tbox : List Inclusion) (g h : Atom) → AtomStep tbox g h ⊎ (AtomStep tbox g h → ⊥)
+pub step_decided : (tbox : List Inclusion) (g h : Atom) → AtomStep tbox g h ⊎ (AtomStep tbox g h → ⊥)
 step_decided tbox g h = dec_as (steps_are tbox g h) (stands_in (steps_of tbox g) h)
 
 -- the arguments of the atom stand in the list

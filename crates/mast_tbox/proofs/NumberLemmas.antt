@@ -1,7 +1,7 @@
 -- The numbers of the existential inclusions are less than their count.
 use Rattle.std.proofs.Common.{append_assoc, append-nil, ◌≡◌, ℕ, suc, ◌+◌, ◌≤◌, ◌<◌, ◌⊎◌, inl, inr, Option, Some, None, Contains, ap, ◌∙◌, List, [], ◌∷◌, ◌++◌, length, drop, slice_index_or, refl, sym, subst, arith}
 use Rattle.std.proofs.lemmas.List.{drop_more}
-use Rattle.std.proofs.lemmas.List.Elements.{Contains-append_cases}
+use Rattle.std.proofs.lemmas.List.Elements.{Contains-append_left, Contains-append_right, Contains-append_cases}
 use Rattle.mast_terms.specs.declared.name.Name.{Name}
 use Rattle.mast_tbox.specs.declared.expression.RoleExpr.{RoleExpr}
 use Rattle.mast_tbox.specs.declared.expression.RoleExpr.TheVariants.{Direct, Inverse}
@@ -104,16 +104,24 @@ pub one_inclusion : (ls : List (Lined Inclusion)) (i j : Inclusion) (k : ℕ) �
 one_inclusion ls i j k h c d e f = one_of 0 ls h i j k c d e f
 
 -- the stated inclusion that a normal one comes from
-record Source (tbox : List Inclusion) (i : Inclusion) : Type 0 where
-  stated : Inclusion
-  stands : Contains tbox stated
-  gives : Contains (normal_of stated) i
+pub record Source (tbox : List Inclusion) (i : Inclusion) : Type 0 where
+  pub stated : Inclusion
+  pub stands : Contains tbox stated
+  pub gives : Contains (normal_of stated) i
 
-source_of : (tbox : List Inclusion) (i : Inclusion) → Contains (normal tbox) i → Source tbox i
+pub source_of : (tbox : List Inclusion) (i : Inclusion) → Contains (normal tbox) i → Source tbox i
 source_of [] i c = absurd (none i c)
 source_of (j ∷ is) i c = elim (Contains-append_cases (normal_of j) (normal is) i c) [
   | inl a ↦ record { stated = j; stands = front j is; gives = a }
   | inr a ↦ let w = source_of is i a in record { stated = w.stated; stands = later w.stated j is w.stands; gives = w.gives }
+]
+
+-- and what stands for a stated one is normal
+pub normal_has : (tbox : List Inclusion) (s i : Inclusion) → Contains tbox s → Contains (normal_of s) i → Contains (normal tbox) i
+normal_has [] s i c g = absurd (none s c)
+normal_has (j ∷ is) s i c g = elim (first_or j is s c) [
+  | inl e ↦ Contains-append_left (normal_of j) (normal is) i (subst (λ w. Contains (normal_of w) i) e g)
+  | inr d ↦ Contains-append_right (normal_of j) (normal is) i (normal_has is s i d g)
 ]
 
 -- among the three of a qualified inclusion the last has the number
