@@ -1,11 +1,10 @@
 //! The components of properties: those that are equivalent to one another.
-ghost use Rattle.std.specs.Prelude.{◌≡◌, ◌↔◌, [], ◌∷◌, ◌&&◌, Some, None, not, map, Contains, if◌then◌else◌, IfOk, OnOk};
-ghost use Rattle.std.specs.List.{list_any, filter};
+ghost use Rattle.std.specs.Prelude.{◌≡◌, ◌↔◌, [], map, Contains, IfOk, OnOk};
+ghost use Rattle.std.specs.List.{filter};
 ghost use Rattle.indexmap.specs.IndexMap.{get};
 ghost use Rattle.indexmap.specs.IndexSet.{insert_all, contains};
-ghost use Rattle.mast_tbox.specs.Components.{turned as turned_of, ends, all_ends, Begins, Inside, Settled, Settles, noted, kept, chief as chief_of, TellsComponents};
+ghost use Rattle.mast_tbox.specs.Components.{turned as turned_of, ends, all_ends, Begins, Inside, Settles, noted, kept, chief as chief_of, TellsComponents};
 ghost use Rattle.mast_tbox.specs.Groups.{found};
-ghost use Rattle.mast_tbox.specs.Inclusions.{Leads};
 ghost use Rattle.mast_tbox.specs.Lists.{Reaches, items};
 ghost use Rattle.mast_tbox.specs.declared.expression.Prop.{Prop};
 

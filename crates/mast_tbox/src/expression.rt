@@ -1,6 +1,6 @@
 //! What axioms speak of: roles and their inverses, basic concepts, and properties.
 ghost use Rattle.std.specs.Prelude.{◌≡◌, true, ◌↔◌};
-ghost use Rattle.mast_tbox.specs.Expressions.{inverse_role as inverse_role_of, inverse as inverse_of, subjects as subjects_of, at as at_of, pair as pair_of, same_basic, same_prop};
+ghost use Rattle.mast_tbox.specs.Expressions.{inverse_role as inverse_role_of, inverse as inverse_of, at as at_of, pair as pair_of, same_basic, same_prop};
 ghost use Rattle.mast_tbox.specs.declared.expression.Basic.{Basic};
 ghost use Rattle.mast_tbox.specs.declared.expression.Prop.{Prop};
 

@@ -2,9 +2,9 @@
 ghost use Rattle.std.specs.Prelude.{◌≡◌, ℕ, Bool, true, None, Option, List, [], ◌∷◌, Contains, ◌↔◌, ◌⊎◌};
 ghost use Rattle.mast_terms.specs.declared.name.Name.{Name};
 ghost use Rattle.mast_cq.specs.declared.atom.Atom.{Atom};
-ghost use Rattle.mast_tbox.specs.Closure.{AtomStep, Down};
+ghost use Rattle.mast_tbox.specs.Closure.{Down};
 ghost use Rattle.mast_tbox.specs.Expressions.{inverse};
-ghost use Rattle.mast_tbox.specs.Inclusions.{normal as normal_inclusions, directly_below, IsDirectlyBelow, Leads};
+ghost use Rattle.mast_tbox.specs.Inclusions.{normal as normal_inclusions, directly_below, IsDirectlyBelow};
 ghost use Rattle.mast_tbox.specs.Laws.{Has, IsClosed};
 ghost use Rattle.mast_tbox.specs.Lists.{items};
 ghost use Rattle.mast_tbox.specs.Numbers.{IsNumbered, number_of};

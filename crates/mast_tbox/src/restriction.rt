@@ -1,5 +1,5 @@
 //! The restrictions under which the answers are the certain ones.
-ghost use Rattle.std.specs.Prelude.{◌≡◌, [], ◌++◌, map, false, IfOk, OnOk};
+ghost use Rattle.std.specs.Prelude.{◌≡◌, [], map, false, IfOk, OnOk};
 ghost use Rattle.indexmap.specs.IndexSet.{insert_all, contains};
 ghost use Rattle.mast_tbox.specs.Components.{chief as chief_of};
 ghost use Rattle.mast_tbox.specs.Judging.{narrowed as narrowed_of, all_narrowed, made_functional as made_functional_of, functionals, is_like as is_like_of, passes, first_line, judged, breach_kind as breach_kind_of, first_judged, step_prop as step_prop_of};
