@@ -4,7 +4,9 @@ use Rattle.std.specs.Prelude.{Option, Some, None, Result, Ok, Err, IfOk, codes, 
 use Rattle.mast_terms.specs.declared.memory.Stop.{Stop}
 use Rattle.mast_terms.specs.declared.memory.Stop.TheVariants.{Named, NoMemory}
 use Rattle.mast_tree.specs.Outcome.{Answers}
+use Rattle.mast_tree.specs.PrefixNodes.{IsFront}
 use Rattle.mast_tree.specs.Prefixes.{front}
+use Rattle.mast_tree.proofs.PrefixNodeLemmas.{FrontTells, front_tells, front_is}
 use Rattle.mast_tree.specs.Source.{AreTokens}
 use Rattle.mast_tree.specs.declared.item.Item.{Item}
 use Rattle.mast_tree.specs.declared.token.Token.{Token}
@@ -62,7 +64,7 @@ some_same o x y e f = e ∙ ap (λ z. Some z) f
 -- what is read on the way: the main node, the table, the query, the class
 record Main (source : List ℕ) (tokens : List Token) (items : List Item) : Type 0 where
   namespaces : List (List ℕ × List ℕ)
-  prefixes : front source tokens (codes "Mappings") [] items ≡ Ok namespaces
+  prefixes : IsFront source tokens (codes "Mappings") items namespaces
   table : Item
   map : Item
   main : main_of source tokens items ≡ Some (table ∷ map ∷ [])
@@ -162,7 +164,7 @@ form_read source tokens items y h =
     let a = one_front source tokens (front source tokens (codes "Mappings") [] items) items y h in
     let b = parts (λ main. pair_in source tokens a.0 main) (main_of source tokens items) y a.2 in
     let c = two_pair source tokens a.0 b.0 y b.2 in
-    pair_read source tokens items y (record { namespaces = a.0; prefixes = a.1; table = c.0; map = c.1; main = some_same (main_of source tokens items) b.0 (c.0 ∷ c.1 ∷ []) b.1 c.2 }) c.3
+    pair_read source tokens items y (record { namespaces = a.0; prefixes = subst (λ r. FrontTells source tokens (codes "Mappings") items r) a.1 (front_tells source tokens (codes "Mappings") items); table = c.0; map = c.1; main = some_same (main_of source tokens items) b.0 (c.0 ∷ c.1 ∷ []) b.1 c.2 }) c.3
 
 chain : {A B : Type 0} (f : A → Option B) (o : Option A) (x : A) (y : B) → o ≡ Some x → f x ≡ Some y → option_and_then f o ≡ Some y
 chain f o x y e h = ap (λ z. option_and_then f z) e ∙ h
@@ -184,7 +186,7 @@ form_is_read source tokens items y h =
     chain (λ columns. option_and_then (λ decl. option_and_then (λ inside. map_in source tokens h.namespaces decl inside) (node_of source tokens (codes "Map") h.map)) (table_in source tokens columns)) (node_of source tokens (codes "Table") h.table) h.declaration y h.table_node
     (chain (λ decl. option_and_then (λ inside. map_in source tokens h.namespaces decl inside) (node_of source tokens (codes "Map") h.map)) (table_in source tokens h.declaration) y.table y h.declared
     (chain (λ inside. map_in source tokens h.namespaces y.table inside) (node_of source tokens (codes "Map") h.map) (h.query ∷ h.head ∷ []) y h.map_node map)) in
-    ap (λ r. after_front source tokens r items) h.prefixes ∙ chain (λ main. pair_in source tokens h.namespaces main) (main_of source tokens items) (h.table ∷ h.map ∷ []) y h.main pair
+    ap (λ r. after_front source tokens r items) (front_is source tokens (codes "Mappings") items (Ok h.namespaces) h.prefixes) ∙ chain (λ main. pair_in source tokens h.namespaces main) (main_of source tokens items) (h.table ∷ h.map ∷ []) y h.main pair
 
 -- the reader's answer as the form's
 pub form_answers : (source : List ℕ) (tokens : List Token) (items : List Item) (r : Result Mapping (Stop Unbuilt))

@@ -1,8 +1,8 @@
 -- What a mapping document says.
-use Rattle.std.specs.Prelude.{◌≡◌, ◌<◌, ℕ, List, [], ◌∷◌, length, Some, Ok, codes}
+use Rattle.std.specs.Prelude.{◌≡◌, ◌<◌, ℕ, List, [], ◌∷◌, length, Some, codes}
 use Rattle.mast_tree.specs.declared.item.Item.{Item}
 use Rattle.mast_tree.specs.declared.token.Token.{Token}
-use Rattle.mast_tree.specs.Prefixes.{front}
+use Rattle.mast_tree.specs.PrefixNodes.{IsFront}
 use Rattle.mast_cli.specs.declared.mapping.Mapping.{Mapping}
 use Rattle.mast_cli.specs.Columns.{AreColumns, names_of}
 use Rattle.mast_cli.specs.MappingForm.{Said, node_of, identifier_of, string_of, table_in, slots_after, class_of, main_of}
@@ -16,7 +16,7 @@ FitsTable mapping = (length mapping.table.columns < 4294967295) × AreColumns (l
 pub record IsForm (source : List ℕ) (tokens : List Token) (items : List Item) (said : Said) : Type 0 where
   -- prefixes, and a main node with a table and a mapping
   pub namespaces : List (List ℕ × List ℕ)
-  pub prefixes : front source tokens (codes "Mappings") [] items ≡ Ok namespaces
+  pub prefixes : IsFront source tokens (codes "Mappings") items namespaces
   pub table : Item
   pub map : Item
   pub main : main_of source tokens items ≡ Some (table ∷ map ∷ [])
