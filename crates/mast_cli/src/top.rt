@@ -59,7 +59,7 @@ pub fn run<Rt: Threads + Sync, F: Files, S: Sink>(
     }
 }
 
-/// Over objects in memory that never fail, each run that has memory answers: no fault can come.
+/// Over objects in memory that never fail, each run that has memory answers by the definitions: no fault can come.
 pub fn run_sound<Rt: Threads + Sync>(
     rt: &Rt,
     alloc: Global,
@@ -68,6 +68,9 @@ pub fn run_sound<Rt: Threads + Sync>(
     sink: &mut SoundSink,
 ) -> Status
     ensures complete { (result ≡ Status.NoMemory) ⊎ IsAnswer result }
+    ensures outcome { IsAnswer result → IfSome (⟦<SoundFiles as Files>⟧.contents files.old)
+        (λ contents. WritesOutcome (map string_bytes words.now) contents result (⟦<SoundSink as Sink>⟧.written sink.old) (⟦<SoundSink as Sink>⟧.written sink.new)) }
+    ensures no_memory { result ≡ Status.NoMemory → ⟦<SoundSink as Sink>⟧.written sink.new ≡ ⟦<SoundSink as Sink>⟧.written sink.old }
 {
     run(rt, alloc, words, files, sink)
 }
