@@ -38,21 +38,18 @@ pub fn values_are_ordered()
     ensures date_order { OrdersAll date_order }
 {}
 
-/// Laws of objects and of their arguments: `==` holds exactly of equal ones, and `cmp` is their order, in which only equal ones tie.
-pub fn objects_are_ordered()
-    ensures equality { TestsEquality ⟦<Object as PartialEq>⟧.eq }
-    ensures compares { ComparesBy object_order ⟦<Object as Ord>⟧.cmp }
-    ensures order { OrdersAll object_order }
-    ensures args_equality { TestsEquality ⟦<Args as PartialEq>⟧.eq }
-    ensures args_compares { ComparesBy (slice_cmp value_order) ⟦<Args as Ord>⟧.cmp }
-    ensures args_order { OrdersAll (slice_cmp value_order) }
-{}
-
-/// Laws of terms and tuples: `==` holds exactly of equal ones, and `cmp` is their order, in which only equal ones tie.
+/// Laws of terms and tuples, and of the objects among them with their arguments: `==` holds exactly of equal ones, and `cmp` is
+/// their order, in which only equal ones tie.
 pub fn terms_are_ordered()
     ensures equality { TestsEquality ⟦<Term as PartialEq>⟧.eq }
     ensures compares { ComparesBy term_order ⟦<Term as Ord>⟧.cmp }
     ensures order { OrdersAll term_order }
+    ensures object_equality { TestsEquality ⟦<Object as PartialEq>⟧.eq }
+    ensures object_compares { ComparesBy object_order ⟦<Object as Ord>⟧.cmp }
+    ensures object_order { OrdersAll object_order }
+    ensures args_equality { TestsEquality ⟦<Args as PartialEq>⟧.eq }
+    ensures args_compares { ComparesBy (slice_cmp value_order) ⟦<Args as Ord>⟧.cmp }
+    ensures args_order { OrdersAll (slice_cmp value_order) }
     ensures tuple_equality { TestsEquality ⟦<List<Term> as PartialEq>⟧.eq }
     ensures tuple_compares { ComparesBy tuple_order ⟦<List<Term> as Ord>⟧.cmp }
     ensures tuple_order { OrdersAll tuple_order }
