@@ -16,7 +16,7 @@ pub fn node<'d>(doc: &Doc<'_>, item: &'d Item, word: &str) -> Result<&'d [Item],
     match item {
         Item::Node { token, items } => {
             if doc.word(*token) == word {
-                Ok(items.as_slice())
+                Ok(items.get().as_slice())
             } else {
                 Err(Stop::Named(Unbuilt))
             }

@@ -1,6 +1,6 @@
 // Documents and their items.
 use crate::Token;
-use sqlite_items::Items;
+use sqlite_items::{Boxed, Items};
 
 /// The documents.
 #[derive(Clone, Copy, Debug, PartialEq, Eq)]
@@ -11,14 +11,27 @@ pub enum DocName {
 }
 
 /// An item, by the numbers of its tokens, from 0: a name or an IRI alone, a string and its language or type,
-/// a binding, or a node with a name and the items between its parentheses.
+/// a binding, or a node with a name and the items between its parentheses. (The box keeps each item as small as a leaf.)
 #[derive(Debug, Drop)]
 pub enum Item {
-    Leaf { token: u32 },
-    Iri { token: u32 },
-    Str { token: u32, tag: Option<u32> },
-    Bind { token: u32, iri: u32 },
-    Node { token: u32, items: Items<Item> },
+    Leaf {
+        token: u32,
+    },
+    Iri {
+        token: u32,
+    },
+    Str {
+        token: u32,
+        tag: Option<u32>,
+    },
+    Bind {
+        token: u32,
+        iri: u32,
+    },
+    Node {
+        token: u32,
+        items: Boxed<Items<Item>>,
+    },
 }
 
 /// A document: its bytes, their tokens, and the items that stand for these.

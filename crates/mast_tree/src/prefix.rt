@@ -138,7 +138,7 @@ fn part_of<'a>(doc: &Doc<'a>, item: &Item, word: &str) -> Part<'a>
             if name != "Prefix" {
                 return wrong;
             }
-            match items.as_slice() {
+            match items.get().as_slice() {
                 [only] => binding(doc, only),
                 _ => wrong,
             }

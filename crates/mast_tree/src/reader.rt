@@ -38,7 +38,7 @@ fn read_items(alloc: Global, tokens: &[Token]) -> Result<Items<Item>, Stop<TreeB
         at += 1;
     }
     if ends(place, depth) {
-        Ok(trees.finish(place)?)
+        Ok(trees.finish(alloc, place)?)
     } else {
         Err(breach(at, TreeKind::Unexpected))
     }

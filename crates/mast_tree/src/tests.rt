@@ -90,7 +90,7 @@ fn show(items: &[Item], out: &mut String) -> Result<(), AllocError> {
             Item::Bind { token, iri } => write!(out, "n{token}={iri} ")?,
             Item::Node { token, items } => {
                 write!(out, "n{token}( ")?;
-                show(items.as_slice(), out)?;
+                show(items.get().as_slice(), out)?;
                 write!(out, ") ")?;
             }
         }
@@ -193,7 +193,7 @@ fn last_iri(alloc: Global, source: &[u8]) -> Result<String, AllocError> {
 fn expanded(alloc: Global, doc: &Doc, out: &mut String) -> Result<(), Stop<ShapeBreach>> {
     let table = prefixes(alloc, doc, "Ontology")?;
     if let Some(Item::Node { items, .. }) = doc.items.as_slice().last() {
-        match items.as_slice() {
+        match items.get().as_slice() {
             [Item::Str { token, .. }] => out.push_str(doc.text(alloc, *token)?.as_str())?,
             [item] => out.push_str(table.expand(alloc, doc, item)?.as_str())?,
             _ => (),

@@ -7,15 +7,15 @@ ghost use Rattle.mast_tree.specs.declared.token.TokenKind.{TokenKind as Kind};
 
 use crate::place::Place;
 use crate::{Item, TokenKind};
-use mast_terms::NoMemory;
-use sqlite_items::Items;
+use mast_terms::{List, NoMemory};
+use sqlite_items::{Boxed, Items};
 use std::alloc::Global;
 use std::mem;
 
 /// A node whose parenthesis is open: the items before it, and its name's token.
 #[derive(Drop)]
 pub struct Frame {
-    items: Items<Item>,
+    items: List<Item>,
     token: u32,
 }
 
@@ -23,24 +23,26 @@ pub struct Frame {
 #[derive(Drop)]
 pub struct Trees {
     frames: Items<Frame>,
-    items: Items<Item>,
+    items: List<Item>,
     first: u32,
 }
 
-/// The greatest number of items that are moved into a buffer of their size. More of them stay in the buffer in which they
-/// grew: nothing was written to its rest, and a copy would take as much again.
+/// The greatest number of items that are moved into a new buffer of their size, so that the one in which they grew serves the
+/// next node. A buffer of more gives back its rest where it stands: a copy would take as much again.
 const FEW: usize = 4096;
 
-/// The items, in a buffer of their size where they are few.
-fn trimmed(alloc: Global, items: Items<Item>) -> Result<Items<Item>, NoMemory>
+/// The items, in a buffer of their size.
+fn trimmed(alloc: Global, items: List<Item>) -> Result<Items<Item>, NoMemory>
     ensures { IfOk result (λ same. same ≡ items) }
 {
-    if items.len() > FEW {
-        return Ok(items);
+    let mut grown = items.into_vec();
+    if grown.len() > FEW {
+        grown.shrink_to_fit();
+        return Ok(Items::from_vec(grown));
     }
-    let mut exact = Items::from_vec(Vec::with_capacity(alloc, items.len())?);
-    exact.append(items)?;
-    Ok(exact)
+    let mut exact = Vec::with_capacity(alloc, grown.len())?;
+    exact.append(&mut grown)?;
+    Ok(Items::from_vec(exact))
 }
 
 impl Trees {
@@ -50,17 +52,17 @@ impl Trees {
     {
         Trees {
             frames: Items::new(alloc),
-            items: Items::new(alloc),
+            items: List::new(alloc),
             first: 0,
         }
     }
 
-    fn push(&mut self, item: Item) -> Result<(), NoMemory>
+    fn push(&mut self, alloc: Global, item: Item) -> Result<(), NoMemory>
         ensures items { OnOk result (self.new.items ≡ self.old.items ++ item ∷ []) }
         ensures frames { self.new.frames ≡ self.old.frames }
         ensures first { self.new.first ≡ self.old.first }
     {
-        self.items.push(item)?;
+        self.items.push(alloc, item)?;
         Ok(())
     }
 
@@ -69,7 +71,7 @@ impl Trees {
         ensures items { OnOk result (self.new.items ≡ []) }
         ensures frames { OnOk result (self.new.frames ≡ self.old.frames ++ record { items = self.old.items; token = self.old.first } ∷ []) }
     {
-        let items = mem::replace(&mut self.items, Items::new(alloc));
+        let items = mem::replace(&mut self.items, List::new(alloc));
         self.frames.push(Frame {
             items,
             token: self.first,
@@ -85,8 +87,8 @@ impl Trees {
             None => Ok(()),
             Some(Frame { items, token }) => {
                 let inside = mem::replace(&mut self.items, items);
-                let items = trimmed(alloc, inside)?;
-                self.push(Item::Node { token, items })
+                let items = Boxed::new(alloc, trimmed(alloc, inside)?)?;
+                self.push(alloc, Item::Node { token, items })
             }
         }
     }
@@ -96,7 +98,7 @@ impl Trees {
         ensures { OnOk result ((ks : List Kind) → length ks ≡ at → Grown 0 self.old.frames self.old.items ks → GrowsTo (machine.item_step (length self.old.frames) kind) self.new (ks ++ kind ∷ [])) }
     {
         match kind {
-            TokenKind::Iri => self.push(Item::Iri { token: at }),
+            TokenKind::Iri => self.push(alloc, Item::Iri { token: at }),
             TokenKind::Close => self.close(alloc),
             _ => {
                 self.first = at;
@@ -112,7 +114,7 @@ impl Trees {
             TokenKind::Equals => Ok(()),
             TokenKind::Open => self.open(alloc),
             _ => {
-                self.push(Item::Leaf { token: self.first })?;
+                self.push(alloc, Item::Leaf { token: self.first })?;
                 self.start(alloc, kind, at)
             }
         }
@@ -123,15 +125,21 @@ impl Trees {
     {
         match kind {
             TokenKind::Carets => Ok(()),
-            TokenKind::Lang => self.push(Item::Str {
-                token: self.first,
-                tag: Some(at),
-            }),
-            _ => {
-                self.push(Item::Str {
+            TokenKind::Lang => self.push(
+                alloc,
+                Item::Str {
                     token: self.first,
-                    tag: None,
-                })?;
+                    tag: Some(at),
+                },
+            ),
+            _ => {
+                self.push(
+                    alloc,
+                    Item::Str {
+                        token: self.first,
+                        tag: None,
+                    },
+                )?;
                 self.start(alloc, kind, at)
             }
         }
@@ -151,19 +159,25 @@ impl Trees {
             Place::Item => self.start(alloc, kind, at),
             Place::AfterName => self.after_name(alloc, kind, at),
             Place::AfterStr => self.after_str(alloc, kind, at),
-            Place::AfterCarets => self.push(Item::Str {
-                token: self.first,
-                tag: Some(at),
-            }),
-            Place::AfterEquals => self.push(Item::Bind {
-                token: self.first,
-                iri: at,
-            }),
+            Place::AfterCarets => self.push(
+                alloc,
+                Item::Str {
+                    token: self.first,
+                    tag: Some(at),
+                },
+            ),
+            Place::AfterEquals => self.push(
+                alloc,
+                Item::Bind {
+                    token: self.first,
+                    iri: at,
+                },
+            ),
         }
     }
 
     /// The items, at a place where a document may end.
-    pub fn finish(self, place: Place) -> Result<Items<Item>, NoMemory>
+    pub fn finish(self, alloc: Global, place: Place) -> Result<Items<Item>, NoMemory>
         ensures { IfOk result (λ items. (ks : List Kind) → GrownAt place self ks → machine.ends (machine.at place (length self.frames)) ≡ true → Stand ks items) }
     {
         let Trees {
@@ -173,17 +187,20 @@ impl Trees {
         } = self;
         match place {
             Place::AfterName => {
-                items.push(Item::Leaf { token: first })?;
-                Ok(items)
+                items.push(alloc, Item::Leaf { token: first })?;
+                Ok(Items::from_vec(items.into_vec()))
             }
             Place::AfterStr => {
-                items.push(Item::Str {
-                    token: first,
-                    tag: None,
-                })?;
-                Ok(items)
+                items.push(
+                    alloc,
+                    Item::Str {
+                        token: first,
+                        tag: None,
+                    },
+                )?;
+                Ok(Items::from_vec(items.into_vec()))
             }
-            _ => Ok(items),
+            _ => Ok(Items::from_vec(items.into_vec())),
         }
     }
 }
