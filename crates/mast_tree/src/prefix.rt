@@ -193,7 +193,7 @@ fn joined(alloc: Global, namespace: &str, name: &str) -> Result<Text, NoMemory>
     let mut iri = String::with_capacity(alloc, namespace.len() + name.len())?;
     iri.push_str(namespace)?;
     iri.push_str(name)?;
-    Ok(Text::from_string(iri))
+    Text::from_string(alloc, iri)
 }
 
 fn read_prefixes(alloc: Global, doc: &Doc, word: &str) -> Result<PrefixTable, Stop<ShapeBreach>>

@@ -54,13 +54,13 @@ fn has_escape(bytes: &[u8]) -> bool
     false
 }
 
-/// The bytes as a text, which are not copied; nothing where they are none.
-fn into_text(alloc: Global, bytes: Vec<u8>) -> Text
-    ensures { IsUtf8 bytes.items → result ≡ bytes.items }
+/// The bytes as a text, which goes on in their buffer; the empty text where they are none.
+fn into_text(alloc: Global, bytes: Vec<u8>) -> Result<Text, NoMemory>
+    ensures { IfOk result (λ text. IsUtf8 bytes.items → text ≡ bytes.items) }
 {
     match String::from_utf8(bytes) {
-        Ok(text) => Text::from_string(text),
-        Err(_) => Text::from_string(String::new(alloc)),
+        Ok(text) => Text::from_string(alloc, text),
+        Err(_) => Text::from_str(alloc, ""),
     }
 }
 
@@ -126,7 +126,7 @@ impl<'a> Doc<'a> {
                 let chars = inside(between(self.source, t.from as usize, t.to as usize));
                 if has_escape(chars) {
                     let text = unescaped(alloc, chars)?;
-                    Ok(into_text(alloc, text))
+                    into_text(alloc, text)
                 } else {
                     Text::from_str(alloc, as_text(chars))
                 }

@@ -10,7 +10,7 @@ returns c =
     let old = c.args.namespaces.now.entries in
     let key = c.in_ok-prefix.prefix in
     let name = c.in_ok-prefix.ensures.ok in
-    let iri = c.in_ok-namespace.ensures in
+    let iri = c.in_ok-namespace.ensures.equal in
     ap (λ x. shown x) c.in_ok-insert.ensures.entries
     ∙ put_shown key c.in_ok-namespace.namespace old (subst (λ x. namespace_of x (shown old) ≡ None) (sym name) c.requires.new)
     ∙ ap (λ x. shown old ++ (x, c.in_ok-namespace.namespace) ∷ []) name
