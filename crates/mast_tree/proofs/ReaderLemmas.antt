@@ -92,6 +92,10 @@ begun tokens trees f i = record {
     empty : (items : List AnItem) → items ≡ [] → Grown 0 [] items []
     empty items e = (done, e, refl)
 
+-- from trees that are the same, the same is grown
+pub grows_same : (p : Place) (k : TokenKind) (old same new : Trees) (n : ℕ) → same ≡ old → ((ks : List TokenKind) → length ks ≡ n → GrownAt p same ks → GrowsTo (step p (length same.frames) k) new (ks ++ k ∷ [])) → (ks : List TokenKind) → length ks ≡ n → GrownAt p old ks → GrowsTo (step p (length old.frames) k) new (ks ++ k ∷ [])
+grows_same p k old same new n e grows = subst (λ (trees : Trees). (ks : List TokenKind) → length ks ≡ n → GrownAt p trees ks → GrowsTo (step p (length trees.frames) k) new (ks ++ k ∷ [])) e grows
+
 pub read_on : (tokens : List Token) (old new : Trees) (p q : Place) (d e n i : ℕ) (z : Token) (m : Move) → Reading tokens old p d n i → i < length tokens → m ≡ move_of p d (get_or tokens i z).kind → m ≡ To q e → MoveWithin 64 m → ((ks : List TokenKind) → length ks ≡ n → GrownAt p old ks → GrowsTo (step p (length old.frames) (get_or tokens i z).kind) new (ks ++ (get_or tokens i z).kind ∷ [])) → Reading tokens new q e (n + 1) (i + 1)
 read_on tokens old new p q d e n i z m r l move is within grows =
     let k = (get_or tokens i z).kind in

@@ -30,6 +30,7 @@ fn read_items(alloc: Global, tokens: &[Token]) -> Result<Items<Item>, Stop<TreeB
             Move::Deeper => return Err(breach(at, TreeKind::Deep)),
             Move::Stuck => return Err(breach(at, TreeKind::Unexpected)),
             Move::To(next, open) => {
+                trees.make_room(alloc, tokens, at);
                 trees.read(alloc, place, token.kind, at)?;
                 place = next;
                 depth = open;

@@ -6,7 +6,7 @@ ghost use Rattle.mast_tree.specs.Trees.{Stand};
 ghost use Rattle.mast_tree.specs.declared.token.TokenKind.{TokenKind as Kind};
 
 use crate::place::Place;
-use crate::{Item, TokenKind};
+use crate::{Item, Token, TokenKind};
 use mast_terms::{List, NoMemory};
 use sqlite_items::{Boxed, Items};
 use std::alloc::Global;
@@ -27,9 +27,44 @@ pub struct Trees {
     first: u32,
 }
 
-/// The greatest number of items that are moved into a new buffer of their size, so that the one in which they grew serves the
-/// next node. A buffer of more gives back its rest where it stands: a copy would take as much again.
+/// Up to so many items of a node are moved into a new buffer of their size, so that the one in which they grew serves the next
+/// node. A copy of more would take as much again: they get room for all of them where the node ends near, and what is too much
+/// is given back where it stands.
 const FEW: usize = 4096;
+
+/// How many tokens are looked at to see where a node ends, for each item that it has so far. So all looking is linear, and a
+/// node of which no end is seen is small beside its document.
+const NEAR: usize = 16;
+
+/// How many items at most stand before the parenthesis that closes or the end, with one that may be begun. None where neither is
+/// among the first `near` tokens.
+fn items_ahead(tokens: &[Token], near: usize) -> Option<usize> {
+    let mut left = near;
+    let mut depth: usize = 0;
+    let mut count: usize = 1;
+    for token in tokens {
+        if left == 0 {
+            return None;
+        }
+        left -= 1;
+        match token.kind {
+            TokenKind::Open => depth = depth.wrapping_add(1),
+            TokenKind::Close => {
+                if depth == 0 {
+                    return Some(count);
+                }
+                depth -= 1;
+            }
+            TokenKind::Name | TokenKind::Iri | TokenKind::Str => {
+                if depth == 0 {
+                    count = count.wrapping_add(1);
+                }
+            }
+            _ => {}
+        }
+    }
+    Some(count)
+}
 
 /// The items, in a buffer of their size.
 fn trimmed(alloc: Global, items: List<Item>) -> Result<Items<Item>, NoMemory>
@@ -64,6 +99,25 @@ impl Trees {
     {
         self.items.push(alloc, item)?;
         Ok(())
+    }
+
+    /// Takes room for the items ahead where the innermost node has many and its buffer is full: for all where its end is near,
+    /// and else for as many again. The tokens from number `at` on are not read yet.
+    pub fn make_room(&mut self, alloc: Global, tokens: &[Token], at: u32)
+        ensures same { self.new ≡ self.old }
+    {
+        let len = self.items.as_slice().len();
+        if len < FEW || !len.is_power_of_two() {
+            return;
+        }
+        let mut items = mem::replace(&mut self.items, List::new(alloc)).into_vec();
+        if items.capacity() == len {
+            let ahead = tokens.get(at as usize..).unwrap_or(tokens);
+            let more = items_ahead(ahead, len.saturating_mul(NEAR)).unwrap_or(len);
+            // Without memory for them the buffer stays as it is.
+            let _ = items.reserve_exact(more);
+        }
+        self.items = List::from_vec(items);
     }
 
     /// Opens a node, whose name was begun.

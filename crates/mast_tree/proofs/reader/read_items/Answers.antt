@@ -2,7 +2,7 @@ use Rattle.std.proofs.Common.{sym, subst, ◌∙◌}
 use Rattle.std.specs.Prelude.{Err}
 use Rattle.mast_tree.specs.Outcome.{Answers}
 use Rattle.mast_tree.specs.Trees.{IsTree, IsTreeBreach}
-use Rattle.mast_tree.proofs.ReaderLemmas.{begun, read_on, deeper_told, stuck_told, whole_read, end_told}
+use Rattle.mast_tree.proofs.ReaderLemmas.{begun, grows_same, read_on, deeper_told, stuck_told, whole_read, end_told}
 use Rattle.mast_tree.proofs.reader.read_items.Goals as goal
 
 pub loop-token-init : goal.loop-token-init
@@ -21,7 +21,8 @@ returns-in-Stuck c =
 pub loop-token-preserved : goal.loop-token-preserved
 loop-token-preserved c =
     let l = c.loop-token in
-    read_on c.args.tokens.now l.trees c.read.new.self l.place c.in-To.next l.depth c.in-To.open l.at l.token-index _ c.advance.result l.invariant c.loop-token-test.true c.advance.ensures.moves c.in-To.is c.advance.ensures.within c.in_ok-read-in-To.ensures
+    let grows = grows_same l.place _ l.trees c.make_room.new.self c.read.new.self l.at c.make_room.ensures.same c.in_ok-read-in-To.ensures in
+    read_on c.args.tokens.now l.trees c.read.new.self l.place c.in-To.next l.depth c.in-To.open l.at l.token-index _ c.advance.result l.invariant c.loop-token-test.true c.advance.ensures.moves c.in-To.is c.advance.ensures.within grows
 
 pub returns-in_ok-finish : goal.returns-in_ok-finish
 returns-in_ok-finish c =
