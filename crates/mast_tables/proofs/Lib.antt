@@ -10,3 +10,4 @@ pub mod OnceLemmas
 pub mod ReadingLemmas
 pub mod RecordsLemmas
 pub mod RowsLemmas
+pub mod WholeLemmas

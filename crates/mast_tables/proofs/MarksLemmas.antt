@@ -5,8 +5,8 @@ use Rattle.std.proofs.Math.Seq.{map-set_same, get_or-append_seam}
 use Rattle.std.proofs.lemmas.Bool.Decides.{leb_tells, eqb_tells}
 use Rattle.std.proofs.lemmas.List.{map-append, map-set, get_or-map, get_or_append_left, get_or-append-add, get_or-set_same, get_or-set_other, length-append, length-map, length-set, length-take, length_push, take_all, take_more_set}
 use Rattle.std.proofs.lemmas.Nat.{mul-add-lt}
-use Rattle.std.specs.List.{AllByRecursion}
-use Rattle.mast_tables.specs.Marks.{row_marks, rows_marks, whole, in_rows, AreColumns}
+use Rattle.std.specs.List.{AllByRecursion, AllZip}
+use Rattle.mast_tables.specs.Marks.{InRows, row_marks, rows_marks, whole, in_rows, AreColumns}
 
 -- ---- reading
 
@@ -178,3 +178,20 @@ module _ {V : Type 0} (items : V → List ℕ) where
       begun = λ k before inside. absurd (omega (arith, before));
       waiting = λ k after inside. ap length (empty_at cs k h) ∙ sym none_whole;
     }
+
+-- ---- copies of columns
+
+-- columns whose marks are those of others, place by place
+pub copied_columns : {V : Type 0} (items : V → List ℕ) (C : V → V → Type 0) → ((v w : V) → C v w → items w ≡ items v) → (cs ds : List V) → AllZip C cs ds → map items ds ≡ map items cs
+copied_columns items C says [] [] h = refl
+copied_columns items C says [] (d ∷ ds) h = absurd h
+copied_columns items C says (c ∷ cs) [] h = absurd h
+copied_columns items C says (c ∷ cs) (d ∷ ds) h =
+    let first : items d ≡ items c = says c d h.0 in
+    let rest : map items ds ≡ map items cs = copied_columns items C says cs ds h.1 in cc
+
+-- such columns are seen as one
+pub copied_view : {V : Type 0} (items : V → List ℕ) (cs ds : List V) (next : ℕ) (seen : InRows) → map items ds ≡ map items cs → record { width = length cs; list = in_rows (map items cs) next } ≡ seen → record { width = length ds; list = in_rows (map items ds) next } ≡ seen
+copied_view items cs ds next seen e is =
+    let wide : length ds ≡ length cs = sym (length-map ds items) ∙ ap length e ∙ length-map cs items in
+    rw (wide, e) is

@@ -5,3 +5,4 @@ pub mod Reading
 pub mod Records
 pub mod Rows
 pub mod Typed
+pub mod Whole

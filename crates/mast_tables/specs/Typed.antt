@@ -48,6 +48,7 @@ IsWrong column cell row.Width = ⊥
 abbrev pub value_of : Content → Option Value
 value_of held.Missing = None
 value_of (held.Text text) = Some (v.Text text.now)
+value_of (held.Lent value) = Some value.now
 value_of (held.Other value) = Some value
 
 -- the answer on a cell: what it holds, or what is wrong with it

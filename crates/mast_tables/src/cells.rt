@@ -1,6 +1,6 @@
 // The cells of a table, row by row, by the numbers of their values.
-ghost use Rattle.std.specs.Prelude.{◌≡◌, ◌+◌, ◌*◌, ◌<◌, ◌≤◌, ◌∷◌, ◌++◌, [], Some, None, IfOk, OnOk, length, get_or, option_copied, option_and_then};
-ghost use Rattle.std.specs.List.{position};
+ghost use Rattle.std.specs.Prelude.{◌≡◌, ◌+◌, ◌*◌, ◌<◌, ◌≤◌, ◌∷◌, ◌++◌, [], Some, None, false, IfOk, OnOk, length, get_or, option_copied, option_and_then};
+ghost use Rattle.std.specs.List.{list_any, position};
 ghost use Rattle.mast_terms.specs.declared.value.Value.TheVariants as v;
 ghost use Rattle.mast_tables.specs.Cells.{AreCells, AreNumbered, IsMarked, cells_in, width_in, number_among, same};
 ghost use Rattle.mast_tables.specs.Typed.{value_of};
@@ -16,7 +16,7 @@ use std::mem::replace;
 const MOST_NUMBERS: usize = 4294967295;
 
 // Each different value stands once. The mark of a cell is 0 where it is missing, or else its value's number and one.
-// A text is looked up in the buffer, and copied only where it is new.
+// A text is looked up in the buffer, and copied only where it is new; so is a value that is lent.
 #[derive(Drop)]
 pub(crate) struct Cells {
     values: IndexSet<Value>,
@@ -61,6 +61,7 @@ impl Cells {
         match content {
             Content::Missing => Ok(0),
             Content::Text(text) => self.mark_text(alloc, text),
+            Content::Lent(value) => self.mark_lent(alloc, value),
             Content::Other(value) => self.mark_value(value),
         }
     }
@@ -74,6 +75,18 @@ impl Cells {
         match self.find_text(alloc, text)? {
             Some(number) => Ok(number as u32 + 1),
             None => self.mark_value(Value::Text(Text::from_str(alloc, text)?)),
+        }
+    }
+
+    fn mark_lent(&mut self, alloc: Global, value: &Value) -> Result<u32, NoMemory>
+        requires { AreNumbered self.old.values.keys }
+        ensures marked { IfOk result (IsMarked self.old.values.keys (Some value.now) self.new.values.keys) }
+        ensures numbered { OnOk result (AreNumbered self.new.values.keys) }
+        ensures same { OnOk result (self.new.marks ≡ self.old.marks) }
+    {
+        match self.values.get_index_of(value) {
+            Some(number) => Ok(number as u32 + 1),
+            None => self.mark_value(value.copy(alloc)?),
         }
     }
 
@@ -144,4 +157,36 @@ impl Cells {
             None => None,
         }
     }
+
+    /// The same cells.
+    pub(crate) fn copy(&self, alloc: Global) -> Result<Cells, NoMemory>
+        requires { AreCells self.now }
+        ensures cells { IfOk result (λ cells. cells_in cells ≡ cells_in self.now) }
+        ensures wide { IfOk result (λ cells. width_in cells ≡ width_in self.now) }
+        ensures kept { IfOk result AreCells }
+    {
+        Ok(Cells {
+            values: copied_values(alloc, &self.values)?,
+            marks: self.marks.copy(alloc)?,
+            buffer: String::new(alloc),
+        })
+    }
+}
+
+fn copied_values(alloc: Global, values: &IndexSet<Value>) -> Result<IndexSet<Value>, NoMemory>
+    ensures { IfOk result (λ copy. copy.keys ≡ values.now.keys) }
+{
+    let mut copy = IndexSet::with_capacity(alloc, values.len())?;
+    for value in values.as_slice() {
+        put_last(alloc, &mut copy, value)?;
+    }
+    Ok(copy)
+}
+
+fn put_last(alloc: Global, values: &mut IndexSet<Value>, value: &Value) -> Result<(), NoMemory>
+    requires { list_any (same value.now) values.old.keys ≡ false }
+    ensures { OnOk result (values.new.keys ≡ values.old.keys ++ value.now ∷ []) }
+{
+    values.insert(value.copy(alloc)?)?;
+    Ok(())
 }

@@ -58,6 +58,17 @@ impl Marks {
     {
         self.columns[column][row]
     }
+
+    /// The same marks.
+    pub(crate) fn copy(&self, alloc: Global) -> Result<Marks, NoMemory>
+        ensures { IfOk result (λ marks. marks ≡ self.now) }
+    {
+        let _ = alloc;
+        Ok(Marks {
+            columns: self.columns.clone()?,
+            next: self.next,
+        })
+    }
 }
 
 fn empty_columns(alloc: Global, width: usize) -> Result<Vec<Vec<u32>>, NoMemory>

@@ -1,9 +1,15 @@
 // Tables.
-ghost use Rattle.std.specs.Prelude.{◌≡◌, length, option_copied};
+ghost use Rattle.std.specs.Prelude.{◌≡◌, ◌<◌, IfOk, OnOk, length, option_copied};
+ghost use Rattle.mast_tables.specs.Cells.{AreCells, width_in};
+ghost use Rattle.mast_tables.specs.Reading.{Adds};
 ghost use Rattle.mast_tables.specs.Rows.{IsPlace, cell_at, number_at, number_of};
+ghost use Rattle.mast_tables.specs.Whole.{MayHold, whole_row, whole_rows};
 
+use crate::TableDecl;
 use crate::cells::Cells;
-use mast_terms::Value;
+use crate::typed::Content;
+use mast_terms::{List, NoMemory, Value};
+use std::alloc::Global;
 use std::marker::Model;
 
 /// A table: rows of cells, each a value of its column's kind, or missing. Rows and columns count from 1.
@@ -57,4 +63,42 @@ impl Table {
     {
         self.cells.find(value)
     }
+
+    /// The table whose cells are these values, none of them missing. It needs one column or more, rows of the declared
+    /// width and kinds, and at most 4,000,000,000 cells. A value that stands in several cells is copied once.
+    pub fn of(alloc: Global, decl: &TableDecl, rows: &[List<Value>]) -> Result<Table, NoMemory>
+        requires { MayHold decl.now.columns rows.now }
+        ensures { IfOk result (λ table. table ≡ whole_rows rows.now) }
+    {
+        let mut cells = Cells::new(alloc, decl.columns.as_slice().len())?;
+        for row in rows {
+            push_row(alloc, row.as_slice(), &mut cells)?;
+        }
+        Ok(Table {
+            count: rows.len() as u32,
+            cells,
+        })
+    }
+
+    /// A table with the same cells.
+    pub fn copy(&self, alloc: Global) -> Result<Table, NoMemory>
+        ensures { IfOk result (λ table. table ≡ self.now) }
+    {
+        Ok(Table {
+            count: self.count,
+            cells: self.cells.copy(alloc)?,
+        })
+    }
+}
+
+// A row of these values, behind the others.
+fn push_row(alloc: Global, values: &[Value], cells: &mut Cells) -> Result<(), NoMemory>
+    requires cells { AreCells cells.old }
+    requires wide { 0 < width_in cells.old }
+    ensures { OnOk result (Adds cells.old cells.new (whole_row values.now)) }
+{
+    for value in values {
+        cells.push(alloc, Content::Lent(value))?;
+    }
+    Ok(())
 }

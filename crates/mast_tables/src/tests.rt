@@ -1,9 +1,18 @@
-use super::{Column, RowKind, TableDecl, load};
+ghost use Rattle.std.specs.Prelude.{◌≡◌, ◌∷◌, [], IfOk};
+ghost use Rattle.mast_terms.specs.declared.value.Kind.TheVariants as kinds;
+ghost use Rattle.mast_terms.specs.declared.value.Value.TheVariants as v;
+ghost use Rattle.mast_tables.specs.Rows.{IsPlace};
+ghost use Rattle.mast_tables.specs.Whole.{whole_row};
+ghost use Rattle.mast_tables.specs.declared.declaration.Column.{Column as DeclaredColumn};
+
+use super::{Column, RowKind, Table, TableDecl, load};
 use mast_terms::{Kind, List, NoMemory, Stop, Text, Value};
 use std::alloc::Global;
 use std::test::Fail;
 
-fn column(alloc: Global, name: &str, kind: Kind, null: bool) -> Result<Column, NoMemory> {
+fn column(alloc: Global, name: &str, kind: Kind, null: bool) -> Result<Column, NoMemory>
+    ensures { IfOk result (λ column. column.kind ≡ kind) }
+{
     Ok(Column {
         name: Text::from_str(alloc, name)?,
         kind,
@@ -174,5 +183,74 @@ fn equal_values_have_one_number(rt: HostRuntime) -> Result<(), Fail> {
     for (row, column, value, wanted) in cases {
         assert_eq!(rt; looked_up(alloc, file, row, column, value)?, wanted);
     }
+    Ok(())
+}
+
+// A table with a text column and an integer column.
+fn pairs(alloc: Global) -> Result<TableDecl, NoMemory>
+    ensures { IfOk result (λ decl. (text number : DeclaredColumn) × (decl.columns ≡ text ∷ number ∷ []) × (text.kind ≡ kinds.Text) × (number.kind ≡ kinds.Integer)) }
+{
+    let mut columns = List::new(alloc);
+    columns.push(alloc, column(alloc, "text", Kind::Text, true)?)?;
+    columns.push(alloc, column(alloc, "n", Kind::Integer, false)?)?;
+    Ok(TableDecl {
+        name: Text::from_str(alloc, "pairs")?,
+        file: Text::from_str(alloc, "pairs.csv")?,
+        columns,
+    })
+}
+
+fn pair(alloc: Global, text: &str, number: i64) -> Result<List<Value>, NoMemory>
+    ensures { IfOk result (λ row. row ≡ v.Text text.now ∷ v.Int number ∷ []) }
+{
+    let mut row = List::new(alloc);
+    row.push(alloc, Value::Text(Text::from_str(alloc, text)?))?;
+    row.push(alloc, Value::Int(number))?;
+    Ok(row)
+}
+
+// The table of two pairs, each with this number.
+fn given(alloc: Global, first: &str, second: &str, number: i64) -> Result<Table, NoMemory>
+    ensures { IfOk result (λ table. table ≡ whole_row (v.Text first.now ∷ v.Int number ∷ []) ∷ whole_row (v.Text second.now ∷ v.Int number ∷ []) ∷ []) }
+{
+    let decl = pairs(alloc)?;
+    let rows = [pair(alloc, first, number)?, pair(alloc, second, number)?];
+    Table::of(alloc, &decl, &rows)
+}
+
+fn is_cell(table: &Table, row: u32, column: u32, value: &Value) -> bool
+    requires { IsPlace table.now row column }
+{
+    match table.cell(row, column) {
+        Some(cell) => *cell == *value,
+        None => false,
+    }
+}
+
+fn is_row(table: &Table, row: u32, text: &Value, number: &Value) -> bool
+    requires text { IsPlace table.now row 1 }
+    requires number { IsPlace table.now row 2 }
+{
+    is_cell(table, row, 1, text) && is_cell(table, row, 2, number)
+}
+
+#[test]
+fn given_values_are_the_cells_of_a_table_and_of_its_copy(rt: HostRuntime) -> Result<(), Fail> {
+    let alloc = rt.alloc();
+    let u = Value::Text(Text::from_str(alloc, "u")?);
+    let empty = Value::Text(Text::from_str(alloc, "")?);
+    let one = Value::Int(1);
+    let table = given(alloc, "u", "", 1)?;
+    assert!(rt; is_row(&table, 1, &u, &one) && is_row(&table, 2, &empty, &one));
+    assert_eq!(rt;
+        (table.rows(), table.number(2, 2), table.find(&empty)),
+        (2, Some(1), Some(2))
+    );
+    let copy = table.copy(alloc)?;
+    assert!(rt; is_row(&copy, 1, &u, &one) && is_row(&copy, 2, &empty, &one));
+    assert_eq!(rt;
+        (copy.rows(), copy.number(2, 2), copy.find(&empty)),
+        (2, Some(1), Some(2))
+    );
     Ok(())
 }

@@ -6,11 +6,13 @@ ghost use Rattle.mast_tables.specs.Typed.{IsMissing, TellsCell};
 use crate::{Column, RowKind};
 use mast_terms::{Kind, Value, read_date, read_int};
 
-/// What a cell holds. A text is lent by its record, so that no cell takes memory before it is known to be new.
+/// What a cell holds. A text is lent by its record, and a value that is there by who has it, so that no cell takes
+/// memory before it is known to be new.
 #[derive(Drop)]
 pub(crate) enum Content<'a> {
     Missing,
     Text(&'a str),
+    Lent(&'a Value),
     Other(Value),
 }
 
