@@ -10,18 +10,17 @@ use crate::typed::Content;
 use indexmap::IndexSet;
 use mast_terms::{NoMemory, Text, Value};
 use std::alloc::Global;
-use std::mem::replace;
 
 // There are at most so many different values.
 const MOST_NUMBERS: usize = 4294967295;
 
 // Each different value stands once. The mark of a cell is 0 where it is missing, or else its value's number and one.
-// A text is looked up in the buffer, and copied only where it is new; so is a value that is lent.
+// A text that takes memory is looked up by the key, and copied only where it is new; so is a value that is lent.
 #[derive(Drop)]
 pub(crate) struct Cells {
     values: IndexSet<Value>,
     marks: Marks,
-    buffer: String,
+    key: Value,
 }
 
 impl Cells {
@@ -34,7 +33,7 @@ impl Cells {
         Ok(Cells {
             values: IndexSet::new(alloc),
             marks: Marks::new(alloc, width)?,
-            buffer: String::new(alloc),
+            key: Value::Text(Text::from_str(alloc, "")?),
         })
     }
 
@@ -72,6 +71,9 @@ impl Cells {
         ensures numbered { OnOk result (AreNumbered self.new.values.keys) }
         ensures same { OnOk result (self.new.marks ≡ self.old.marks) }
     {
+        if text.len() <= Text::IN_PLACE {
+            return self.mark_value(Value::Text(Text::from_str(alloc, text)?));
+        }
         match self.find_text(alloc, text)? {
             Some(number) => Ok(number as u32 + 1),
             None => self.mark_value(Value::Text(Text::from_str(alloc, text)?)),
@@ -103,20 +105,13 @@ impl Cells {
         Ok(number as u32 + 1)
     }
 
-    // The number of a text that a cell has. The buffer comes back for the next one.
+    // The number of a text that a cell has.
     fn find_text(&mut self, alloc: Global, text: &str) -> Result<Option<usize>, NoMemory>
         ensures found { IfOk result (λ found. found ≡ position (same (v.Text text.now)) self.old.values.keys) }
         ensures same { OnOk result ((self.new.values ≡ self.old.values) × (self.new.marks ≡ self.old.marks)) }
     {
-        let mut buffer = replace(&mut self.buffer, String::new(alloc));
-        buffer.clear();
-        buffer.push_str(text)?;
-        let key = Value::Text(Text::from_string(buffer));
-        let found = self.values.get_index_of(&key);
-        if let Value::Text(text) = key {
-            self.buffer = text.into_string();
-        }
-        Ok(found)
+        set_text(&mut self.key, alloc, text)?;
+        Ok(self.values.get_index_of(&self.key))
     }
 
     /// The value of the cell of a whole row in a column. Both count from 0.
@@ -168,7 +163,7 @@ impl Cells {
         Ok(Cells {
             values: copied_values(alloc, &self.values)?,
             marks: self.marks.copy(alloc)?,
-            buffer: String::new(alloc),
+            key: Value::Text(Text::from_str(alloc, "")?),
         })
     }
 }
@@ -188,5 +183,16 @@ fn put_last(alloc: Global, values: &mut IndexSet<Value>, value: &Value) -> Resul
     ensures { OnOk result (values.new.keys ≡ values.old.keys ++ value.now ∷ []) }
 {
     values.insert(value.copy(alloc)?)?;
+    Ok(())
+}
+
+// Makes the key this text, in the memory that it has.
+fn set_text(key: &mut Value, alloc: Global, text: &str) -> Result<(), NoMemory>
+    ensures { OnOk result (key.new ≡ v.Text text.now) }
+{
+    match key {
+        Value::Text(held) => held.set(alloc, text)?,
+        _ => *key = Value::Text(Text::from_str(alloc, text)?),
+    }
     Ok(())
 }

@@ -25,21 +25,8 @@ pub fn lists_are_ordered<T: Ord>()
     ensures order { TestsEquality T.eq → OrdersAll (slice_cmp T.cmp) }
 {}
 
-/// Laws of values, and of the texts and dates among them: `==` holds exactly of equal ones, and `cmp` is their order, in which only equal ones tie.
-pub fn values_are_ordered()
-    ensures equality { TestsEquality ⟦<Value as PartialEq>⟧.eq }
-    ensures compares { ComparesBy value_order ⟦<Value as Ord>⟧.cmp }
-    ensures order { OrdersAll value_order }
-    ensures text_equality { TestsEquality ⟦<Text as PartialEq>⟧.eq }
-    ensures text_compares { ComparesBy (slice_cmp nat_cmp) ⟦<Text as Ord>⟧.cmp }
-    ensures text_order { OrdersAll (slice_cmp nat_cmp) }
-    ensures date_equality { TestsEquality ⟦<Date as PartialEq>⟧.eq }
-    ensures date_compares { ComparesBy date_order ⟦<Date as Ord>⟧.cmp }
-    ensures date_order { OrdersAll date_order }
-{}
-
-/// Laws of terms and tuples, and of the objects among them with their arguments: `==` holds exactly of equal ones, and `cmp` is
-/// their order, in which only equal ones tie.
+/// Laws of terms and tuples, and of all that they are made of: objects and their arguments, values, texts and dates.
+/// `==` holds exactly of equal ones, and `cmp` is their order, in which only equal ones tie.
 pub fn terms_are_ordered()
     ensures equality { TestsEquality ⟦<Term as PartialEq>⟧.eq }
     ensures compares { ComparesBy term_order ⟦<Term as Ord>⟧.cmp }
@@ -50,6 +37,15 @@ pub fn terms_are_ordered()
     ensures args_equality { TestsEquality ⟦<Args as PartialEq>⟧.eq }
     ensures args_compares { ComparesBy (slice_cmp value_order) ⟦<Args as Ord>⟧.cmp }
     ensures args_order { OrdersAll (slice_cmp value_order) }
+    ensures value_equality { TestsEquality ⟦<Value as PartialEq>⟧.eq }
+    ensures value_compares { ComparesBy value_order ⟦<Value as Ord>⟧.cmp }
+    ensures value_order { OrdersAll value_order }
+    ensures text_equality { TestsEquality ⟦<Text as PartialEq>⟧.eq }
+    ensures text_compares { ComparesBy (slice_cmp nat_cmp) ⟦<Text as Ord>⟧.cmp }
+    ensures text_order { OrdersAll (slice_cmp nat_cmp) }
+    ensures date_equality { TestsEquality ⟦<Date as PartialEq>⟧.eq }
+    ensures date_compares { ComparesBy date_order ⟦<Date as Ord>⟧.cmp }
+    ensures date_order { OrdersAll date_order }
     ensures tuple_equality { TestsEquality ⟦<List<Term> as PartialEq>⟧.eq }
     ensures tuple_compares { ComparesBy tuple_order ⟦<List<Term> as Ord>⟧.cmp }
     ensures tuple_order { OrdersAll tuple_order }

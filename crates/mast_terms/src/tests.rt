@@ -99,6 +99,34 @@ fn terms_are_printed(rt: HostRuntime) -> Result<(), Fail> {
     Ok(())
 }
 
+// Whether each way to this text gives it: from a text, from a buffer, by a copy, and in the place of another text.
+fn is_kept(alloc: Global, text: &str, other: &str) -> Result<bool, NoMemory> {
+    let made = Text::from_str(alloc, text)?;
+    let of_buffer = Text::from_string(alloc, String::from_str(alloc, text)?)?;
+    let mut set = Text::from_str(alloc, other)?;
+    set.set(alloc, text)?;
+    let copy = set.copy(alloc)?;
+    Ok(copy.as_str() == text && copy == made && of_buffer == made && set == made)
+}
+
+#[test]
+fn texts_are_kept(rt: HostRuntime) -> Result<(), Fail> {
+    let texts = [
+        "",
+        "a",
+        "fourteen bytes",
+        "fifteen bytes..",
+        "dreizehn Bytё",
+        "a text of many more bytes",
+    ];
+    for text in texts {
+        for other in texts {
+            assert!(rt; is_kept(rt.alloc(), text, other)?, "{text} after {other}");
+        }
+    }
+    Ok(())
+}
+
 // The number, or None where it is refused.
 fn added(
     vocabulary: &mut Vocabulary,

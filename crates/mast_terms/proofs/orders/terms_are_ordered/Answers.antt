@@ -1,4 +1,4 @@
-use Rattle.mast_terms.proofs.OrderLemmas.{term_equality_test, term_compares, term_orders, object_equality_test, object_compares, object_orders, args_equality_test, args_compares, args_orders, tuple_equality_test, tuple_compares, tuple_orders}
+use Rattle.mast_terms.proofs.OrderLemmas.{term_equality_test, term_compares, term_orders, object_equality_test, object_compares, object_orders, args_equality_test, args_compares, args_orders, value_equality_test, value_compares, value_orders, text_equality_test, text_orders, date_equality_test, date_compares, date_orders, tuple_equality_test, tuple_compares, tuple_orders}
 use Rattle.mast_terms.proofs.orders.terms_are_ordered.Goals as goal
 
 pub returns-clause-equality : goal.returns-clause-equality
@@ -27,6 +27,30 @@ returns-clause-args_compares c = args_compares
 
 pub returns-clause-args_order : goal.returns-clause-args_order
 returns-clause-args_order c = args_orders
+
+pub returns-clause-value_equality : goal.returns-clause-value_equality
+returns-clause-value_equality c = value_equality_test
+
+pub returns-clause-value_compares : goal.returns-clause-value_compares
+returns-clause-value_compares c = value_compares
+
+pub returns-clause-value_order : goal.returns-clause-value_order
+returns-clause-value_order c = value_orders
+
+pub returns-clause-text_equality : goal.returns-clause-text_equality
+returns-clause-text_equality c = text_equality_test
+
+pub returns-clause-text_order : goal.returns-clause-text_order
+returns-clause-text_order c = text_orders
+
+pub returns-clause-date_equality : goal.returns-clause-date_equality
+returns-clause-date_equality c = date_equality_test
+
+pub returns-clause-date_compares : goal.returns-clause-date_compares
+returns-clause-date_compares c = date_compares
+
+pub returns-clause-date_order : goal.returns-clause-date_order
+returns-clause-date_order c = date_orders
 
 pub returns-clause-tuple_equality : goal.returns-clause-tuple_equality
 returns-clause-tuple_equality c = tuple_equality_test
