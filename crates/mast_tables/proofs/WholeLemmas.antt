@@ -19,6 +19,7 @@ pub record Filled (columns : List Column) (rows : List (List Value)) (c : Cells)
   pub wide : width_in c ≡ length columns
   pub filled : cells_in c ≡ cells_of (whole_rows rows)
 
+-- a row behind the others
 cells_push : (rows : List Row) (row : Row) → cells_of (rows ++ row ∷ []) ≡ cells_of rows ++ row
 cells_push [] row = append-nil row
 cells_push (first ∷ rows) row = ap (λ (k : Row). first ++ k) (cells_push rows row) ∙ sym (append_assoc first (cells_of rows) row)
