@@ -1,6 +1,7 @@
 -- What contracts see of the files and sinks in memory, and of those of the machine.
 use Rattle.std.specs.Prelude.{ℕ, ◌+◌, ◌-◌, ◌^◌, min, nat_eq, Bool, List, Option, Some, None}
 use Rattle.std.specs.List.{list_any}
+use Rattle.mast_files.specs.Calls.{Call}
 
 -- one more, up to the end of a counter of 64 bits
 abbrev pub next_count : ℕ → ℕ
@@ -48,16 +49,19 @@ abbrev pub left_of : {File : Type 0} → (File → Option (List ℕ)) → Option
 left_of told None = None
 left_of told (Some file) = told file
 
--- a `DirFiles`: whether a file is open and what it has left, where it tells it;
--- the name of the started file, whether a call on it has failed, and the faults so far
+-- a `DirFiles`: the open file, by the calls that open up to the one that opened it, and what it has left, where it tells it;
+-- the name of the started file, whether a call on it has failed, and the faults so far;
+-- and the calls of the machine, those that open and those that read
 pub record DirFilesState : Type 0 where
-  pub is_open : Bool
+  pub file : Option (List Call)
   pub rest : Option (List ℕ)
   pub current : Option (List ℕ)
   pub failed : Bool
   pub faults : ℕ
+  pub opens : List Call
+  pub reads : List Call
 
--- a `StdSink`: how many bytes standard output took, and the faults so far
+-- a `StdSink`: the calls of the machine, and the faults so far
 pub record StdSinkState : Type 0 where
-  pub taken : ℕ
+  pub writes : List Call
   pub faults : ℕ

@@ -1,8 +1,11 @@
 -- What one call does to the files and sinks.
-use Rattle.std.specs.Prelude.{◌≡◌, ℕ, ◌+◌, ◌-◌, ◌^◌, min, Bool, true, false, if◌then◌else◌, not, ◌&&◌, nat_lt, nat_le, List, ◌++◌, length, take, drop, Option, Some, None, Result, Ok, Err}
+use Rattle.std.specs.Prelude.{◌≡◌, ℕ, ◌+◌, ◌-◌, ◌<◌, min, Bool, true, false, if◌then◌else◌, not, ◌&&◌, nat_lt, nat_le, List, ◌++◌, length, take, drop, [], Option, Some, None, IsSome, Result, Ok, Err}
 use Rattle.mast_terms.specs.declared.memory.Stop.{Stop}
 use Rattle.mast_terms.specs.declared.memory.Stop.TheVariants as stop
 use Rattle.mast_files.specs.declared.outside.Failed.{Failed}
+use Rattle.mast_files.specs.declared.machine.Answer.{Answer}
+use Rattle.mast_files.specs.declared.machine.Answer.TheVariants as answer
+use Rattle.mast_files.specs.Calls.{IsTry, Fails, FailsAt, took_some}
 use Rattle.mast_files.specs.States.{next_count, is_failing, MemFilesState, SoundFilesState, MemSinkState, SoundSinkState, DirFilesState, StdSinkState}
 use Rattle.mast_files.specs.Stored.{content_of, holds}
 
@@ -71,18 +74,35 @@ abbrev pub PutsSoundly : SoundSinkState → List ℕ → Result ℕ Failed → S
 PutsSoundly old piece (Ok n) new = (n ≡ length piece) × (new ≡ record old { written = told_within old.room old.written piece })
 PutsSoundly old piece (Err e) new = ⊥
 
--- A start opens a file, or leaves none open and counts one fault. Want of memory changes nothing.
+-- A start makes one try to open the file, and answers `Ok` exactly where the machine opened it.
+-- Else no file is open and one fault is counted. Want of memory changes nothing, and then the machine was not called.
 abbrev pub StartsInFolder : {T : Type 0} → DirFilesState → List ℕ → Result T (Stop Failed) → DirFilesState → Type 0
-StartsInFolder old name (Ok x) new = new ≡ record { is_open = true; rest = new.rest; current = Some name; failed = false; faults = old.faults }
-StartsInFolder old name (Err (stop.Named e)) new = new ≡ record { is_open = false; rest = None; current = Some name; failed = true; faults = next_count old.faults }
+StartsInFolder old name (Ok x) new =
+    IsTry old.opens name (name, answer.Opened) new.opens
+    × (new ≡ record old { file = Some new.opens; rest = new.rest; current = Some name; failed = false; opens = new.opens })
+StartsInFolder old name (Err (stop.Named e)) new =
+    Fails old.opens name new.opens
+    × (new ≡ record old { file = None; rest = None; current = Some name; failed = true; faults = next_count old.faults; opens = new.opens })
 StartsInFolder old name (Err stop.NoMemory) new = new ≡ old
 
--- A read gives bytes of an open file. One that fails counts one fault, and fails where no file is open.
-abbrev pub ReadsInFolder : DirFilesState → Result ℕ Failed → DirFilesState → Type 0
-ReadsInFolder old (Ok n) new = (old.is_open ≡ true) × (new ≡ record old { rest = new.rest })
-ReadsInFolder old (Err e) new = new ≡ record old { rest = new.rest; failed = true; faults = next_count old.faults }
+-- A read makes one try at the open file, and gives just the bytes that the machine gave.
+-- It fails, and counts one fault, exactly where the machine failed or no file is open. Then the machine was not called.
+abbrev pub ReadsInFolder : DirFilesState → Result ℕ Failed → DirFilesState → List ℕ → Type 0
+ReadsInFolder old (Ok n) new after =
+    IsSome old.file
+    × IsTry old.reads [] (take n after, answer.Gave n) new.reads
+    × (new ≡ record old { rest = new.rest; reads = new.reads })
+ReadsInFolder old (Err e) new after =
+    FailsAt old.file old.reads new.reads
+    × (new ≡ record old { rest = new.rest; failed = true; faults = next_count old.faults; reads = new.reads })
 
--- A put tells just the bytes that standard output took. One that fails counts one fault.
-abbrev pub PutsOut : StdSinkState → Result ℕ Failed → StdSinkState → Type 0
-PutsOut old (Ok n) new = new ≡ record old { taken = min (old.taken + n) (2 ^ 64 - 1) }
-PutsOut old (Err e) new = new ≡ record old { faults = next_count old.faults }
+-- A put makes one try to write the piece, and answers how many bytes the machine took.
+-- It fails, and counts one fault, exactly where the machine took none or failed.
+abbrev pub PutsOut : StdSinkState → List ℕ → Result ℕ Failed → StdSinkState → Type 0
+PutsOut old piece (Ok n) new =
+    (0 < n)
+    × IsTry old.writes piece (piece, answer.Gave n) new.writes
+    × (new.faults ≡ old.faults)
+PutsOut old piece (Err e) new =
+    ((last : Answer) × (took_some last ≡ false) × IsTry old.writes piece (piece, last) new.writes)
+    × (new.faults ≡ next_count old.faults)

@@ -1,5 +1,4 @@
 // What no clause says: that the calls succeed, and what the adapters do with the machine.
-use crate::directory::read_once;
 use crate::{
     DirFiles, Failed, Files, Gone, MemFiles, MemSink, ReadRefusal, Sink, SoundFiles, SoundSink,
     StdSink, read_all, write_all_of,
@@ -8,7 +7,6 @@ use mast_terms::{List, NoMemory, Stop, Text};
 use std::alloc::Global;
 use std::cell::Cell;
 use std::fmt::Display;
-use std::io::Read;
 use std::test::Fail;
 use std::{fs, io};
 
@@ -164,15 +162,6 @@ impl Print for Busy {
     }
 }
 
-impl Read for Busy {
-    fn read(&mut self, buf: &mut [u8]) -> io::Result<usize> {
-        if self.interrupted() {
-            return Err(io::Error::from(io::ErrorKind::Interrupted));
-        }
-        Ok(buf.len().min(1))
-    }
-}
-
 #[test]
 fn standard_output_is_written(rt: HostRuntime) {
     let mut sink = StdSink::new(&rt);
@@ -186,21 +175,6 @@ fn standard_output_is_written(rt: HostRuntime) {
             sink.put("abc".as_bytes()),
             want,
             "{interruptions} interruptions"
-        );
-    }
-}
-
-#[test]
-fn an_interrupted_read_is_made_again(rt: HostRuntime) {
-    for (interruptions, fails) in [(0, false), (100, false), (101, true)] {
-        let mut busy = Busy {
-            left: Cell::new(interruptions),
-        };
-        let mut buf = [0; 4];
-        assert_eq!(rt;
-            read_once(&mut busy, &mut buf).is_err(),
-            fails,
-            "{interruptions}"
         );
     }
 }
