@@ -1,7 +1,15 @@
+pub mod BackLemmas
+pub mod DateLemmas
+pub mod ForthLemmas
 pub mod FrontLemmas
 pub mod GapLemmas
 pub mod LexerLemmas
+pub mod LookLemmas
 pub mod MachineLemmas
+pub mod ReaderLemmas
+pub mod ReadsLemmas
 pub mod SourceLemmas
+pub mod SymbolLemmas
 pub mod TokenLawLemmas
 pub mod TokenLemmas
+pub mod WordLemmas

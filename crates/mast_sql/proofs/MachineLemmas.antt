@@ -1,14 +1,14 @@
 -- The machine accepts exactly the tokens.
-use Rattle.std.proofs.Common.{◌≡◌, inl, inr, ℕ, ◌==◌, ◌&&◌, ◌||◌, Bool, true, false, List, ◌∷◌, [], refl, ap, sym, ◌∙◌, subst, arith}
-use Rattle.std.specs.Prelude.{Option, Some, None, if◌then◌else◌}
+use Rattle.std.proofs.Common.{◌≡◌, inl, inr, ℕ, ◌==◌, ◌||◌, Bool, true, false, List, ◌∷◌, [], refl, sym, ◌∙◌, subst, arith}
+use Rattle.std.specs.Prelude.{Option, Some}
 use Rattle.std.proofs.lemmas.Bool.Decides.{nat_tests}
-use Rattle.std.proofs.lemmas.Bool.{and_parts, cases_Bool}
+use Rattle.std.proofs.lemmas.Bool.{cases_Bool}
 use Rattle.mast_sql.specs.declared.token.SqlKind.{SqlKind}
 use Rattle.mast_sql.specs.declared.token.SqlKind.TheVariants.{Word, Pname, Var, Iri, Integer, Quoted, Doubled, Sign}
 use Rattle.mast_sql.specs.declared.machine.State.{State}
-use Rattle.mast_sql.specs.declared.machine.State.TheVariants.{Start, Name, Colon, Run, Dot, Mark, Variable, Less, Scheme, Inside, Minus, Digits, Quote, Closed, Chars, Escape, Greater, Bang, Caret, End}
-use Rattle.mast_sql.specs.Tokens.{is_alpha, is_digit, is_letter, is_word, is_local, is_scheme, is_iri, is_single, is_end, are_digits, are_word, number, word, run_rest, is_run, pname_rest, iri_chars, scheme_rest, iri_rest, quoted_rest, doubled_rest, is_sign, is_token}
-use Rattle.mast_sql.specs.Machine.{when, start, step, accept, on_step, accepts}
+use Rattle.mast_sql.specs.declared.machine.State.TheVariants.{Name, Colon, Run, Dot, Mark, Variable, Less, Scheme, Inside, Minus, Digits, Quote, Closed, Chars, Escape, Greater, Bang, Caret, End}
+use Rattle.mast_sql.specs.Tokens.{is_alpha, is_digit, is_letter, is_word, is_local, is_scheme, is_iri, is_single, is_end, are_digits, are_word, number, word, run_rest, is_run, pname_rest, iri_chars, scheme_rest, iri_rest, quoted_rest, doubled_rest, is_sign}
+use Rattle.mast_sql.specs.Machine.{when, accepts}
 
 pub is_byte : (b n : ℕ) → (b == n) ≡ true → b ≡ n
 is_byte b n h = grind (arith, nat_tests)

@@ -1,5 +1,5 @@
 -- Reading token by token gives exactly the tokens of a text, or its first breach.
-use Rattle.std.proofs.Common.{◌≡◌, inl, inr, ℕ, zero, suc, ◌+◌, ◌<◌, ◌≤◌, ◌==◌, ◌&&◌, ◌||◌, Bool, true, false, List, ◌∷◌, [], ◌++◌, length, drop, refl, ap, sym, ◌∙◌, subst, arith}
+use Rattle.std.proofs.Common.{◌≡◌, inl, inr, ℕ, zero, suc, ◌+◌, ◌≤◌, ◌==◌, ◌&&◌, ◌||◌, Bool, true, false, List, ◌∷◌, [], ◌++◌, length, drop, refl, ap, sym, ◌∙◌, subst, arith}
 use Rattle.std.specs.Prelude.{Option, Some, None}
 use Rattle.std.proofs.lemmas.List.{length-append}
 use Rattle.std.proofs.lemmas.Bool.{and_parts, cases_Bool}
@@ -11,9 +11,9 @@ use Rattle.mast_sql.specs.declared.token.SqlKind.TheVariants.{Word, Pname, Var, 
 use Rattle.mast_sql.specs.declared.machine.Front.{Front}
 use Rattle.mast_sql.specs.declared.machine.Gap.TheVariants.{Plain}
 use Rattle.mast_sql.specs.declared.machine.State.TheVariants.{Start}
-use Rattle.mast_sql.specs.Tokens.{is_letter, is_digit, is_single, is_blank, are_gap, ends_gap, is_token, are_word, are_digits, is_run, pname_rest, word, iri_rest, number, quoted_rest, doubled_rest, is_sign}
+use Rattle.mast_sql.specs.Tokens.{is_letter, is_digit, is_single, is_blank, are_gap, is_token, are_word, are_digits, pname_rest, word, iri_rest, number, quoted_rest, doubled_rest, is_sign}
 use Rattle.mast_sql.specs.Machine.{longest, gap_scan}
-use Rattle.mast_sql.specs.Source.{IsLongest, Lexes, NoGap, NoToken, Stops, begins_dash}
+use Rattle.mast_sql.specs.Source.{IsLongest, Lexes, NoGap, Stops}
 use Rattle.mast_sql.specs.Lexed.{Lexed, read, wrong, added, on_front, on_rest, lexed}
 use Rattle.mast_sql.proofs.MachineLemmas.{is_byte, other_byte}
 use Rattle.mast_sql.proofs.FrontLemmas.{FrontTells, front_tells, front_of_token, front_of_none, word_some}

@@ -1,5 +1,5 @@
 -- A text has one token list or one first breach.
-use Rattle.std.proofs.Common.{◌≡◌, ◌⊎◌, inl, inr, ℕ, ◌≤◌, List, [], length, drop, refl, ap, sym, ◌∙◌, subst, arith}
+use Rattle.std.proofs.Common.{◌≡◌, ◌⊎◌, inl, inr, ℕ, ◌≤◌, List, length, drop, sym, ◌∙◌, subst, arith}
 use Rattle.std.specs.Prelude.{Result, Ok, Err}
 use Rattle.std.proofs.lemmas.List.{length-drop}
 use Rattle.mast_terms.specs.declared.memory.Stop.{Stop}
@@ -7,7 +7,7 @@ use Rattle.mast_terms.specs.declared.memory.Stop.TheVariants.{Named, NoMemory}
 use Rattle.mast_sql.specs.declared.token.SqlToken.{SqlToken}
 use Rattle.mast_sql.specs.declared.token.SqlLex.{SqlLex}
 use Rattle.mast_sql.specs.Outcome.{Answers}
-use Rattle.mast_sql.specs.Source.{Stops, mark_of, AreTokens, IsLexBreach}
+use Rattle.mast_sql.specs.Source.{mark_of, AreTokens, IsLexBreach}
 use Rattle.mast_sql.specs.Lexed.{Lexed, read, wrong, reading}
 use Rattle.mast_sql.specs.Laws.{HasOneReading}
 use Rattle.mast_sql.proofs.SourceLemmas.{Told, lexed_told, lexes_read, stops_wrong}

@@ -1,8 +1,12 @@
 -- Laws of the definitions.
-use Rattle.std.specs.Prelude.{◌≡◌, ℕ, List, ◌⊎◌}
+use Rattle.std.specs.Prelude.{◌≡◌, ℕ, List, Some, slice_get, ◌⊎◌}
 use Rattle.mast_sql.specs.declared.token.SqlToken.{SqlToken}
 use Rattle.mast_sql.specs.declared.token.SqlLex.{SqlLex}
 use Rattle.mast_sql.specs.Source.{AreTokens, IsLexBreach}
+use Rattle.mast_sql.specs.declared.query.SourceQuery.{SourceQuery}
+use Rattle.mast_sql.specs.declared.query.SqlBreach.{SqlBreach}
+use Rattle.mast_sql.specs.Symbols.{IsPlaced}
+use Rattle.mast_sql.specs.Grammar.{IsSourceQuery, IsSqlBreach}
 
 -- a text has one token list, or one first lexical breach, and not both
 pub record HasOneReading (text : List ℕ) : Type 0 where
@@ -13,3 +17,17 @@ pub record HasOneReading (text : List ℕ) : Type 0 where
 
 abbrev pub TokenLaw : Type 0
 TokenLaw = (text : List ℕ) → HasOneReading text
+
+-- each token of a text is a slice of it, and has the form of its kind
+abbrev pub SpanLaw : Type 0
+SpanLaw = (text : List ℕ) (tokens : List SqlToken) → AreTokens text tokens → (i : ℕ) (t : SqlToken) → slice_get tokens i ≡ Some t → IsPlaced text t
+
+-- the tokens of a text are one source query, or have one first breach of the grammar, and not both
+pub record HasOneQuery (text : List ℕ) (tokens : List SqlToken) : Type 0 where
+  pub either : ((q : SourceQuery) × IsSourceQuery text tokens q) ⊎ ((breach : SqlBreach) × IsSqlBreach text tokens breach)
+  pub not_both : (q : SourceQuery) (breach : SqlBreach) → IsSourceQuery text tokens q → IsSqlBreach text tokens breach → ⊥
+  pub one_query : (a b : SourceQuery) → IsSourceQuery text tokens a → IsSourceQuery text tokens b → a ≡ b
+  pub one_breach : (a b : SqlBreach) → IsSqlBreach text tokens a → IsSqlBreach text tokens b → a ≡ b
+
+abbrev pub QueryLaw : Type 0
+QueryLaw = (text : List ℕ) (tokens : List SqlToken) → AreTokens text tokens → HasOneQuery text tokens

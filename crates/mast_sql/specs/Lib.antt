@@ -1,6 +1,9 @@
+pub mod Grammar
 pub mod Laws
 pub mod Lexed
 pub mod Machine
 pub mod Outcome
+pub mod Places
 pub mod Source
+pub mod Symbols
 pub mod Tokens

@@ -1,4 +1,4 @@
-use Rattle.std.proofs.Common.{◌≡◌, ◌≤◌, ◌+◌, ◌-◌, length}
+use Rattle.std.proofs.Common.{◌≡◌, ◌+◌, ◌-◌, length}
 use Rattle.mast_sql.specs.Lexed.{added, lexed, reading}
 use Rattle.mast_sql.proofs.lexer.lex.Given as goal
 
