@@ -158,13 +158,13 @@ fn as_text(bytes: &[u8]) -> &str
     }
 }
 
-/// The bytes as a text, which are not copied; nothing where they are none.
-fn into_text(alloc: Global, bytes: Vec<u8>) -> Text
-    ensures { IsUtf8 bytes.items → result ≡ bytes.items }
+/// The bytes as a text; nothing where they are none.
+fn into_text(alloc: Global, bytes: Vec<u8>) -> Result<Text, NoMemory>
+    ensures { IfOk result (λ text. IsUtf8 bytes.items → text ≡ bytes.items) }
 {
     match String::from_utf8(bytes) {
-        Ok(text) => Text::from_string(text),
-        Err(_) => Text::from_string(String::new(alloc)),
+        Ok(text) => Text::from_string(alloc, text),
+        Err(_) => Text::from_str(alloc, ""),
     }
 }
 
@@ -240,7 +240,7 @@ fn date_of(text: &[u8]) -> Option<Date>
 fn quoted(alloc: Global, bytes: &[u8]) -> Result<Symbol, NoMemory>
     ensures { IfOk result (λ symbol. IsUtf8 (symbols.unquoted bytes.now) → symbols.IsQuoted (symbols.unquoted bytes.now) symbol) }
 {
-    let text = into_text(alloc, undoubled(alloc, inside(bytes))?);
+    let text = into_text(alloc, undoubled(alloc, inside(bytes))?)?;
     let date = date_of(text.as_str().as_bytes());
     Ok(Symbol::Quoted(text, date))
 }
