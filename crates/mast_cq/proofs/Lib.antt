@@ -1,6 +1,5 @@
 pub mod SortLemmas
 pub mod ContentLemmas
-pub mod MeetingLemmas
 pub mod PutLemmas
 pub mod OrderLemmas
 pub mod AloneLemmas

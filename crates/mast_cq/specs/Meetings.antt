@@ -6,6 +6,8 @@ use Rattle.mast_cq.specs.Unification.{Replacement, only, after, replace_arg, uni
 use Rattle.mast_cq.specs.declared.unifier.Binding.{Binding}
 use Rattle.mast_cq.specs.declared.unifier.Bindings.{Bindings}
 use Rattle.mast_cq.specs.declared.unifier.Met.{Met}
+use Rattle.mast_cq.specs.declared.unifier.MetPair.{MetPair}
+use Rattle.mast_cq.specs.declared.atom.Atom.{Atom}
 
 -- what a binding does to each variable
 abbrev pub binding_of : Option Binding → Replacement
@@ -25,6 +27,11 @@ unified_of (Some b) = Some (binding_of b)
 abbrev pub meeting_of : Option Met → Option Meeting
 meeting_of None = None
 meeting_of (Some m) = Some (record { replacement = replacement_of m.replacement; atom = m.atom })
+
+-- the same of atoms of this form, by what stands at their two places
+abbrev pub pair_meeting_of : (Arg → Arg → Atom) → Option MetPair → Option Meeting
+pair_meeting_of form None = None
+pair_meeting_of form (Some m) = Some (record { replacement = replacement_of m.replacement; atom = form m.first m.second })
 
 -- a replacement, and after it another
 abbrev pub second_pair : Replacement → Option Replacement → Option Replacement

@@ -1,11 +1,14 @@
 //! What two atoms become where they meet, and the query in which two of its atoms are unified.
 ghost use Rattle.std.specs.Prelude.{◌≡◌, ◌≢◌, ◌<◌, ℕ, length, map, IfOk};
 ghost use Rattle.mast_cq.specs.Queries.{viewed, has_var as has_var_of};
-ghost use Rattle.mast_cq.specs.Unification.{wins as wins_of, unify_args as unify_args_of, replace_arg as replace_arg_of, replace as replace_of, fuller as fuller_of, meeting, unified};
-ghost use Rattle.mast_cq.specs.Meetings.{binding_of, replacement_of, bindings_of, both_pairs, unified_of, meeting_of};
+ghost use Rattle.mast_cq.specs.Unification.{wins as wins_of, unify_args as unify_args_of, replace_arg as replace_arg_of, replace as replace_of, fuller as fuller_of, meeting, meeting_of_one, meeting_of_pairs, unified};
+ghost use Rattle.mast_cq.specs.Meetings.{binding_of, replacement_of, bindings_of, both_pairs, unified_of, meeting_of, pair_meeting_of};
+ghost use Rattle.mast_cq.specs.declared.atom.Arg.{Arg};
+ghost use Rattle.mast_cq.specs.declared.atom.Atom.{Atom};
+ghost use Rattle.mast_cq.specs.declared.atom.Atom.TheVariants as atoms;
 
 use crate::{Arg, Atom, Cq, CqRef};
-use mast_terms::{List, NoMemory};
+use mast_terms::{List, Name, NoMemory};
 use std::alloc::Global;
 
 /// A variable and the argument that it becomes.
@@ -33,6 +36,14 @@ pub struct Met {
     pub replacement: Bindings,
     /// The atom.
     pub atom: Atom,
+}
+
+// What two pairs of arguments become where they meet.
+#[derive(Clone, Copy)]
+struct MetPair {
+    replacement: Bindings,
+    first: Arg,
+    second: Arg,
 }
 
 impl Bindings {
@@ -131,20 +142,7 @@ pub fn meet(answer: &[Arg], g: Atom, h: Atom) -> Option<Met>
             if name.0 != other.0 {
                 return None;
             }
-            match unify_args(answer, x, z) {
-                None => None,
-                Some(first) => {
-                    let replacement = Bindings {
-                        first,
-                        second: None,
-                    };
-                    let arg = fuller(bound(first, x), bound(first, z));
-                    Some(Met {
-                        replacement,
-                        atom: Atom::Class { name, arg },
-                    })
-                }
-            }
+            meet_classes(answer, name, x, z)
         }
         (
             Atom::Role {
@@ -161,17 +159,7 @@ pub fn meet(answer: &[Arg], g: Atom, h: Atom) -> Option<Met>
             if name.0 != other.0 {
                 return None;
             }
-            match unify_pairs(answer, x, y, z, w) {
-                None => None,
-                Some(replacement) => {
-                    let from = fuller(replacement.arg(x), replacement.arg(z));
-                    let to = fuller(replacement.arg(y), replacement.arg(w));
-                    Some(Met {
-                        replacement,
-                        atom: Atom::Role { name, from, to },
-                    })
-                }
-            }
+            meet_roles(answer, name, x, y, z, w)
         }
         (
             Atom::Attr {
@@ -188,19 +176,74 @@ pub fn meet(answer: &[Arg], g: Atom, h: Atom) -> Option<Met>
             if name.0 != other.0 {
                 return None;
             }
-            match unify_pairs(answer, x, y, z, w) {
-                None => None,
-                Some(replacement) => {
-                    let from = fuller(replacement.arg(x), replacement.arg(z));
-                    let value = fuller(replacement.arg(y), replacement.arg(w));
-                    Some(Met {
-                        replacement,
-                        atom: Atom::Attr { name, from, value },
-                    })
-                }
-            }
+            meet_attrs(answer, name, x, y, z, w)
         }
         _ => None,
+    }
+}
+
+fn meet_classes(answer: &[Arg], name: Name, x: Arg, z: Arg) -> Option<Met>
+    ensures { meeting_of result ≡ meeting_of_one (atoms.Class name) x z (unify_args_of answer.now x z) }
+{
+    match unify_args(answer, x, z) {
+        None => None,
+        Some(first) => {
+            let replacement = Bindings {
+                first,
+                second: None,
+            };
+            let arg = fuller(bound(first, x), bound(first, z));
+            Some(Met {
+                replacement,
+                atom: Atom::Class { name, arg },
+            })
+        }
+    }
+}
+
+fn meet_roles(answer: &[Arg], name: Name, x: Arg, y: Arg, z: Arg, w: Arg) -> Option<Met>
+    ensures { meeting_of result ≡ meeting_of_pairs answer.now (atoms.Role name) x y z w (unify_args_of answer.now x z) }
+{
+    match meet_pairs(answer, x, y, z, w) {
+        None => None,
+        Some(met) => Some(Met {
+            replacement: met.replacement,
+            atom: Atom::Role {
+                name,
+                from: met.first,
+                to: met.second,
+            },
+        }),
+    }
+}
+
+fn meet_attrs(answer: &[Arg], name: Name, x: Arg, y: Arg, z: Arg, w: Arg) -> Option<Met>
+    ensures { meeting_of result ≡ meeting_of_pairs answer.now (atoms.Attr name) x y z w (unify_args_of answer.now x z) }
+{
+    match meet_pairs(answer, x, y, z, w) {
+        None => None,
+        Some(met) => Some(Met {
+            replacement: met.replacement,
+            atom: Atom::Attr {
+                name,
+                from: met.first,
+                value: met.second,
+            },
+        }),
+    }
+}
+
+// What stands at the two places of atoms whose arguments are (x, y) and (z, w).
+fn meet_pairs(answer: &[Arg], x: Arg, y: Arg, z: Arg, w: Arg) -> Option<MetPair>
+    ensures { (form : Arg → Arg → Atom) → pair_meeting_of form result ≡ meeting_of_pairs answer.now form x y z w (unify_args_of answer.now x z) }
+{
+    match unify_pairs(answer, x, y, z, w) {
+        None => None,
+        Some(replacement) => Some(MetPair {
+            replacement,
+            first: fuller(replacement.arg(x), replacement.arg(z)),
+            second: fuller(replacement.arg(y), replacement.arg(w)),
+        }),
     }
 }
 
