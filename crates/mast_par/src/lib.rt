@@ -6,8 +6,6 @@
 
 mod gate;
 mod pieces;
-#[cfg(test)]
-mod tests;
 
 pub use gate::{Gate, OpenGate};
 pub use pieces::each_piece;

@@ -1,5 +1,7 @@
-//! What no clause says: outside values, and that calls succeed where memory is there.
-use crate::{
+//! Tests of mast_terms: what no clause says, values from outside, and that calls succeed where memory is there.
+#![tactic(auto)]
+
+use mast_terms::{
     Args, BadDate, BadInt, Date, List, NameKind, NoMemory, Object, Stop, Term, Text, Value,
     Vocabulary, read_date, read_int, write_term,
 };

@@ -1,15 +1,18 @@
+//! Tests of mast_par: that pieces run side by side, that each is asked once, and that callers can say what the answers are.
+#![tactic(auto)]
+
 ghost use Rattle.std.specs.Prelude.{◌≡◌, ◌*◌, ◌<◌, All, IfOk, length, map, slice_index_or};
 ghost use Rattle.std.specs.List.{AllZip};
 
-use super::{Gate, OpenGate, each_piece};
+use mast_par::{Gate, OpenGate, each_piece};
 use mast_terms::{List, NoMemory};
 use std::alloc::Global;
-use std::sync::atomic::{AtomicBool, Ordering};
+use std::sync::atomic::{AtomicBool, AtomicU64, Ordering};
 use std::test::Fail;
 use std::thread::Threads;
 
 // Twice each piece. The answers are the map of the function that the closure gives.
-#[tactic(auto, using(crate::proofs::PiecesLemmas::gives_map))]
+#[tactic(auto, using(mast_par::proofs::PiecesLemmas::gives_map))]
 fn doubled<Rt: Threads + Sync>(
     rt: &Rt,
     alloc: Global,
@@ -48,7 +51,7 @@ fn seven_pieces_are_doubled(rt: HostRuntime) -> Result<(), Fail> {
 }
 
 // The elements at these places. The closure needs something of a piece, and says something of it by what it borrows.
-#[tactic(auto, using(crate::proofs::PiecesLemmas::gives_related))]
+#[tactic(auto, using(mast_par::proofs::PiecesLemmas::gives_related))]
 fn elements<Rt: Threads + Sync>(
     rt: &Rt,
     alloc: Global,
@@ -144,5 +147,89 @@ fn two_pieces_meet(rt: HostRuntime) -> Result<(), Fail> {
     assert_eq!(rt; answers.as_slice(), [8, 9].as_slice());
     assert!(rt; meeting.first.load(Ordering::SeqCst) && meeting.second.load(Ordering::SeqCst));
     assert!(rt; !meeting.missed.load(Ordering::SeqCst));
+    Ok(())
+}
+
+// How often the gate was told of each piece, how often each was asked, and how many were asked at one time.
+#[derive(Drop)]
+struct Tally {
+    told: Vec<AtomicU64>,
+    asked: Vec<AtomicU64>,
+    busy: AtomicU64,
+    most: AtomicU64,
+}
+
+impl Gate for Tally {
+    fn begin(&self, piece: usize) {
+        count(&self.told, piece);
+    }
+}
+
+impl Tally {
+    fn new(alloc: Global, pieces: usize) -> Result<Tally, NoMemory> {
+        Ok(Tally {
+            told: noughts(alloc, pieces)?,
+            asked: noughts(alloc, pieces)?,
+            busy: AtomicU64::new(0),
+            most: AtomicU64::new(0),
+        })
+    }
+
+    fn ask(&self, piece: usize) -> usize {
+        count(&self.asked, piece);
+        let busy = self.busy.fetch_add(1, Ordering::SeqCst).wrapping_add(1);
+        self.most.fetch_max(busy, Ordering::SeqCst);
+        for _ in 0..1000 {
+            let _ = self.busy.load(Ordering::SeqCst);
+        }
+        self.busy.fetch_sub(1, Ordering::SeqCst);
+        piece
+    }
+
+    // Whether the gate was told of each piece once and each was asked once, by at most so many workers at a time.
+    fn is_right(&self, workers: u64) -> bool {
+        self.told.iter().all(|count| count.load(Ordering::SeqCst) == 1)
+            && self.asked.iter().all(|count| count.load(Ordering::SeqCst) == 1)
+            && self.most.load(Ordering::SeqCst) <= workers
+    }
+}
+
+fn noughts(alloc: Global, count: usize) -> Result<Vec<AtomicU64>, NoMemory> {
+    let mut counts = Vec::new(alloc);
+    for _ in 0..count {
+        counts.push(AtomicU64::new(0))?;
+    }
+    Ok(counts)
+}
+
+fn count(counts: &[AtomicU64], piece: usize) {
+    if let Some(count) = counts.get(piece) {
+        count.fetch_add(1, Ordering::SeqCst);
+    }
+}
+
+fn asks_each_once<Rt: Threads + Sync>(
+    rt: &Rt,
+    alloc: Global,
+    pieces: usize,
+    workers: usize,
+) -> Result<bool, NoMemory> {
+    let mut numbers = Vec::new(alloc);
+    for piece in 0..pieces {
+        numbers.push(piece)?;
+    }
+    let tally = Tally::new(alloc, pieces)?;
+    let ask = |piece: &usize| -> Result<usize, NoMemory> { Ok(tally.ask(*piece)) };
+    each_piece(rt, alloc, &numbers, workers.clamp(1, 16), &ask, &tally)?;
+    Ok(tally.is_right(workers as u64))
+}
+
+#[test]
+fn each_piece_is_asked_once_by_few_workers(rt: HostRuntime) -> Result<(), Fail> {
+    for workers in [1, 2, 3, 7, 16] {
+        for pieces in [0, 1, 2, 3, 16, 40] {
+            assert!(rt; asks_each_once(&rt, rt.alloc(), pieces, workers)?, "{pieces} {workers}");
+        }
+    }
     Ok(())
 }
