@@ -1,9 +1,12 @@
 //! The laws of equality and order.
 ghost use Rattle.std.specs.Cmp.Lexicographic.{slice_cmp};
 ghost use Rattle.std.specs.Ordering.{nat_cmp};
+ghost use Rattle.std.specs.Prelude.{IsUtf8};
+ghost use Rattle.mast_terms.specs.Hashes.{FitsAlways, FitsName, FitsValue, FitsObject, FitsTerm, FitsList, TellsApart, TellsLists};
 ghost use Rattle.mast_terms.specs.Orders.{name_order, name_kind_order, kind_order, date_order, value_order, object_order, term_order, tuple_order, TestsEquality, ComparesBy, OrdersAll};
 
 use crate::{Args, Date, Kind, List, Name, NameKind, Object, Term, Text, Value};
+use std::hash::Hash;
 
 /// Laws of names and of both kinds of kinds: `==` holds exactly of equal ones, and `cmp` is their order, in which only equal ones tie.
 pub fn names_are_ordered()
@@ -16,13 +19,17 @@ pub fn names_are_ordered()
     ensures kind_equality { TestsEquality ⟦<Kind as PartialEq>⟧.eq }
     ensures kind_compares { ComparesBy kind_order ⟦<Kind as Ord>⟧.cmp }
     ensures kind_order { OrdersAll kind_order }
+    ensures hash { TellsApart FitsName ⟦<Name as Hash>⟧.hash_input }
+    ensures name_kind_hash { TellsApart FitsAlways ⟦<NameKind as Hash>⟧.hash_input }
+    ensures kind_hash { TellsApart FitsAlways ⟦<Kind as Hash>⟧.hash_input }
 {}
 
 /// Laws of lists whose elements have the laws: `==` holds exactly of equal ones, and `cmp` goes by the first element that differs.
-pub fn lists_are_ordered<T: Ord>()
+pub fn lists_are_ordered<T: Ord + Hash>()
     ensures equality { TestsEquality T.eq → TestsEquality ⟦<List<T> as PartialEq>⟧.eq }
     ensures compares { ComparesBy (slice_cmp T.cmp) ⟦<List<T> as Ord>⟧.cmp }
     ensures order { TestsEquality T.eq → OrdersAll (slice_cmp T.cmp) }
+    ensures hash { TellsLists T.hash_input ⟦<List<T> as Hash>⟧.hash_input }
 {}
 
 /// Laws of terms and tuples, and of all that they are made of: objects and their arguments, values, texts and dates.
@@ -49,4 +56,11 @@ pub fn terms_are_ordered()
     ensures tuple_equality { TestsEquality ⟦<List<Term> as PartialEq>⟧.eq }
     ensures tuple_compares { ComparesBy tuple_order ⟦<List<Term> as Ord>⟧.cmp }
     ensures tuple_order { OrdersAll tuple_order }
+    ensures hash { TellsApart FitsTerm ⟦<Term as Hash>⟧.hash_input }
+    ensures object_hash { TellsApart FitsObject ⟦<Object as Hash>⟧.hash_input }
+    ensures args_hash { TellsApart (FitsList FitsValue) ⟦<Args as Hash>⟧.hash_input }
+    ensures value_hash { TellsApart FitsValue ⟦<Value as Hash>⟧.hash_input }
+    ensures text_hash { TellsApart IsUtf8 ⟦<Text as Hash>⟧.hash_input }
+    ensures date_hash { TellsApart FitsAlways ⟦<Date as Hash>⟧.hash_input }
+    ensures tuple_hash { TellsApart (FitsList FitsTerm) ⟦<List<Term> as Hash>⟧.hash_input }
 {}

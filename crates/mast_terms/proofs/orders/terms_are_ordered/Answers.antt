@@ -1,3 +1,5 @@
+use Rattle.mast_terms.proofs.HashLemmas.{str_tells}
+use Rattle.mast_terms.proofs.KeyLemmas.{date_tells, value_tells, args_tells, object_tells, term_tells, tuple_tells}
 use Rattle.mast_terms.proofs.OrderLemmas.{term_equality_test, term_compares, term_orders, object_equality_test, object_compares, object_orders, args_equality_test, args_compares, args_orders, value_equality_test, value_compares, value_orders, text_equality_test, text_orders, date_equality_test, date_compares, date_orders, tuple_equality_test, tuple_compares, tuple_orders}
 use Rattle.mast_terms.proofs.orders.terms_are_ordered.Goals as goal
 
@@ -60,3 +62,24 @@ returns-clause-tuple_compares c = tuple_compares
 
 pub returns-clause-tuple_order : goal.returns-clause-tuple_order
 returns-clause-tuple_order c = tuple_orders
+
+pub returns-clause-hash : goal.returns-clause-hash
+returns-clause-hash c = term_tells
+
+pub returns-clause-object_hash : goal.returns-clause-object_hash
+returns-clause-object_hash c = object_tells
+
+pub returns-clause-args_hash : goal.returns-clause-args_hash
+returns-clause-args_hash c = args_tells
+
+pub returns-clause-value_hash : goal.returns-clause-value_hash
+returns-clause-value_hash c = value_tells
+
+pub returns-clause-text_hash : goal.returns-clause-text_hash
+returns-clause-text_hash c = str_tells
+
+pub returns-clause-date_hash : goal.returns-clause-date_hash
+returns-clause-date_hash c = date_tells
+
+pub returns-clause-tuple_hash : goal.returns-clause-tuple_hash
+returns-clause-tuple_hash c = tuple_tells
