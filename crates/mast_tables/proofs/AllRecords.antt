@@ -59,12 +59,14 @@ unfolding records_from
 all_from config zero s xs h = absurd (omega arith)
 all_from config (suc n) s xs h = step_all config n s xs (next_record config s [] [] xs) refl (takes config s [] [] xs) h (all_from config n)
 
-strip_short : (xs : List ℕ) → length (strip_bom xs) ≤ length xs
+-- a byte order mark that is dropped makes no file longer
+pub strip_short : (xs : List ℕ) → length (strip_bom xs) ≤ length xs
 unfolding strip_bom
 strip_short [] = omega arith
 strip_short (a ∷ []) = omega arith
 strip_short (a ∷ b ∷ []) = omega arith
 strip_short (a ∷ b ∷ c ∷ rest) = grind arith
 
+-- the records of a file are all
 pub all_records : (bytes : List ℕ) → AreRecords default_config st.StartRecord (strip_bom bytes) (records_of bytes)
 all_records bytes = all_from default_config (length bytes + 1) st.StartRecord (strip_bom bytes) (omega (arith, strip_short bytes))

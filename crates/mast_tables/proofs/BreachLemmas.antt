@@ -73,6 +73,7 @@ fields_long (first ∷ columns) [] cells r = absurd r
 fields_long (first ∷ columns) (cell ∷ fields) [] r = absurd r
 fields_long (first ∷ columns) (cell ∷ fields) (value ∷ cells) r = let rest : length fields ≡ length columns = fields_long columns fields cells r.1 in omega arith
 
+-- a record that is a row has no breach
 pub record_fits : (columns : List Column) (most number : ℕ) (fields : Record) (cells : Row) (column : ℕ) (wrong : RowKind) → number ≤ most → IsRow columns fields cells → RecordBreach columns most number fields column wrong → ⊥
 record_fits columns most number fields cells column row.Rows le r b = let past : most < number = b.0 in absurd (omega arith)
 record_fits columns most number fields cells column row.Width le r b = b.1 (fields_long columns fields cells r)
@@ -88,11 +89,13 @@ rows_fit columns most number (fields ∷ records) [] breach le r b = r
 rows_fit columns most number (fields ∷ records) (cells ∷ rows) breach le r (inl b) = record_fits columns most number fields cells breach.column breach.kind (omega arith) r.0 b.1
 rows_fit columns most number (fields ∷ records) (cells ∷ rows) breach le r (inr b) = rows_fit columns most (number + 1) records rows breach (omega arith) r.1 b.3
 
+-- equal headers differ at no column
 pub names_same : (from : ℕ) (names : Record) (column : ℕ) → DiffersAt from names names column → ⊥
 names_same from [] column d = d
 names_same from (name ∷ names) column (inl d) = d.0 refl
 names_same from (name ∷ names) column (inr d) = names_same (from + 1) names column d.1
 
+-- a file that has rows has no breach
 pub file_fits : (columns : List Column) (most : ℕ) (records : List Record) (rows : List Row) (breach : RowBreach) → HasRows columns most records rows → HasBreach columns most records breach → ⊥
 file_fits columns most [] rows breach r b = r
 file_fits columns most (header ∷ records) rows breach r (inl b) = names_same 1 (header_of columns) breach.column (subst (λ (k : Record). DiffersAt 1 (header_of columns) k breach.column) r.0 b.2)

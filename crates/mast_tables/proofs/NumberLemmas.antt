@@ -12,7 +12,7 @@ use Rattle.indexmap.proofs.CallerLemmas.{Contains-insert_key}
 use Rattle.mast_terms.specs.declared.value.Value.{Value}
 use Rattle.mast_terms.specs.contracts.value.ValueEq.TheImpl.Laws as laws
 use Rattle.mast_terms.proofs.SameLemmas.{value_same}
-use Rattle.mast_tables.specs.Cells.{same, present, different, number_among}
+use Rattle.mast_tables.specs.Values.{same, present, different, number_among}
 use Rattle.mast_tables.specs.Rows.{Row, cells_of, cell_at, number_at, number_of, IsPlace}
 use Rattle.mast_tables.proofs.CellsLemmas.{position_is}
 
@@ -91,12 +91,14 @@ missing_number : (cells : List (Option Value)) (k : ℕ) (a : Option Value) → 
 missing_number cells k None e h = refl
 missing_number cells k (Some v) e h = let n = numbered cells k v e in let at = n.1 in absurd (cc)
 
+-- two cells have one number exactly where they have one value
 pub one_number : (rows : List Row) (row column other next : ℕ) → IsPlace rows row column → IsPlace rows other next → (number_at rows row column ≡ number_at rows other next) ↔ (cell_at rows row column ≡ cell_at rows other next)
 one_number rows row column other next p q =
     let a = at_place rows row column p in
     let b = at_place rows other next q in
     (λ h. numbers_differ (cells_of rows) a.0 b.0 (cell_at rows row column) (cell_at rows other next) a.1 b.1 h, λ e. ap (λ (x : Option Value). option_and_then (number_among (cells_of rows)) x) e)
 
+-- a cell has no number exactly where it is missing
 pub no_number : (rows : List Row) (row column : ℕ) → IsPlace rows row column → (number_at rows row column ≡ None) ↔ (cell_at rows row column ≡ None)
 no_number rows row column p =
     let a = at_place rows row column p in
@@ -142,6 +144,7 @@ of_a_cell cells v (Some i) e h = by (from_all (present cells) [] v here)
     by (inl a) = let lt : a.0 < 0 = a.1 in absurd (omega arith)
     by (inr b) = is_cell cells v b.0 b.1 b.2
 
+-- a value has a number exactly where a cell has it
 pub found_number : (rows : List Row) (v : Value) → IsSome (number_of rows v) ↔ Contains (cells_of rows) (Some v)
 found_number rows v = (
   λ h. of_a_cell (cells_of rows) v (number_among (cells_of rows) v) refl h,

@@ -13,10 +13,10 @@ use Rattle.mast_tables.specs.declared.declaration.Column.{Column}
 use Rattle.mast_tables.specs.declared.declaration.RowBreach.{RowBreach}
 use Rattle.mast_tables.specs.declared.declaration.RowKind.TheVariants as kind
 use Rattle.mast_tables.specs.Breach.{HasRows, IsRow, AreRows, DiffersAt, RowsBreach, TellsFile, header_of}
-use Rattle.mast_tables.specs.Cells.{cells_in}
-use Rattle.mast_tables.specs.Reading.{HasNext, TellsRow, TellsRecords}
+use Rattle.mast_tables.specs.inside.Cells.{cells_in, rows_of}
+use Rattle.mast_tables.specs.inside.Reading.{HasNext, TellsRow, TellsRecords}
 use Rattle.mast_tables.specs.Records.{Record}
-use Rattle.mast_tables.specs.Rows.{IsPlace, Row, rows_of}
+use Rattle.mast_tables.specs.Rows.{IsPlace, Row}
 use Rattle.mast_tables.proofs.RowsLemmas.{rows_push}
 
 -- What a read of the next record tells of all records.
@@ -156,6 +156,7 @@ file_empty (Some xs) (Some ys) s t columns most turns fields h =
     let is : records_from default_config (turns + 1) s xs ≡ [] = ap (λ (k : ℕ). records_from default_config k s xs) up ∙ end_known xs ys s t turns fields h in
     rw is refl
 
+-- a header that differs is the first breach
 pub file_header : (o p : Option (List ℕ)) (s t : State) (columns : List Column) (most turns column : ℕ) (fields : Record) → HasNext o s p t true fields → DiffersAt 1 (header_of columns) fields column
     → IfSome o (λ bytes. TellsFile columns most (records_from default_config (turns + 1) s bytes) (Err (stop.Named (record { number = 0; column = column; kind = kind.Header }))))
 file_header None p s t columns most turns column fields h d = tt
@@ -170,6 +171,7 @@ behind columns most header records (Ok rows) e h = (e, h.0, h.1)
 behind columns most header records (Err (stop.Named b)) e h = inr (e, h)
 behind columns most header records (Err stop.NoMemory) e h = tt
 
+-- the answer on the records behind the header is that on the file
 pub file_rows : (o p : Option (List ℕ)) (s t : State) (columns : List Column) (most turns : ℕ) (fields : Record) (result : Result (List Row) (Stop RowBreach)) → HasNext o s p t true fields → fields ≡ header_of columns
     → IfSome p (λ bytes. TellsRecords columns most (records_from default_config turns t bytes) result)
     → IfSome o (λ bytes. TellsFile columns most (records_from default_config (turns + 1) s bytes) result)

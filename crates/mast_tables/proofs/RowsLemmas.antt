@@ -4,8 +4,9 @@ use Rattle.std.specs.Prelude.{Option, None, option_and_then}
 use Rattle.std.proofs.lemmas.List.{drop-drop, take-append-drop, get_or-take, get_or-drop, length-take, length-drop, nil_from_length, take_all, take-append-le, drop-append-le}
 use Rattle.std.proofs.Math.Nat.{suc-mul, zero-mul, mul-le-mul_right}
 use Rattle.mast_terms.specs.declared.value.Value.{Value}
-use Rattle.mast_tables.specs.Rows.{Row, rows_of, cells_of, IsPlace, cell_at, number_at}
-use Rattle.mast_tables.specs.Cells.{number_among}
+use Rattle.mast_tables.specs.Rows.{Row, cells_of, IsPlace, cell_at, number_at}
+use Rattle.mast_tables.specs.inside.Cells.{rows_of}
+use Rattle.mast_tables.specs.Values.{number_among}
 
 pub length_rows : (w n : ℕ) (cells : List (Option Value)) → length (rows_of w n cells) ≡ n
 length_rows w zero cells = refl

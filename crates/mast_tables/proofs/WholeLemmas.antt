@@ -1,16 +1,17 @@
 -- Rows without a missing cell, one after another.
-use Rattle.std.proofs.Common.{◌≡◌, ℕ, ◌+◌, ◌*◌, ◌<◌, ◌≤◌, List, [], ◌∷◌, ◌++◌, length, get_or, take, drop, refl, sym, ap, subst, ◌∙◌, arith}
+use Rattle.std.proofs.Common.{◌≡◌, ℕ, zero, suc, ◌+◌, ◌*◌, ◌<◌, ◌≤◌, List, [], ◌∷◌, ◌++◌, length, get_or, take, drop, refl, sym, ap, subst, ◌∙◌, arith}
 use Rattle.std.specs.Prelude.{Some}
 use Rattle.std.specs.List.{AllByRecursion}
-use Rattle.std.proofs.Math.Nat.{suc-mul, zero-mul}
-use Rattle.std.proofs.lemmas.List.{append_assoc, append-nil, map-append, take_more, take_all, take-append-le, drop-append-le, drop_all, length-map, length-append}
+use Rattle.std.proofs.Math.Nat.{suc-mul, zero-mul, mul-le-mul_right}
+use Rattle.std.proofs.lemmas.List.{append_assoc, append-nil, map-append, take_more, take_all, take-append-le, drop-append-le, drop_all, length-map, length-append, length-take}
 use Rattle.std.proofs.lemmas.Slice.Zip.{AllZip-long}
 use Rattle.mast_terms.specs.declared.value.Value.{Value}
 use Rattle.mast_tables.specs.declared.cells.Cells.{Cells}
 use Rattle.mast_tables.specs.declared.declaration.Column.{Column}
-use Rattle.mast_tables.specs.Cells.{AreCells, cells_in, width_in}
-use Rattle.mast_tables.specs.Reading.{Adds}
-use Rattle.mast_tables.specs.Rows.{Row, rows_of, cells_of}
+use Rattle.mast_tables.specs.inside.Cells.{AreCells, cells_in, width_in, rows_of}
+use Rattle.mast_tables.specs.inside.Reading.{Adds}
+use Rattle.mast_tables.specs.Rows.{Row, cells_of}
+use Rattle.mast_tables.specs.Limits.{most_cells}
 use Rattle.mast_tables.specs.Whole.{FitsColumns, MayHold, value_kind, whole_row, whole_rows}
 
 -- so many rows of one width are put in
@@ -35,6 +36,7 @@ filled_more columns rows i row mid new lt is h adds =
       filled = adds.added ∙ ap (λ (k : Row). k ++ whole_row row) h.filled ∙ sym (cells_push (whole_rows (take i rows)) (whole_row row)) ∙ ap cells_of (sym whole);
     }
 
+-- all rows are put in
 pub filled_all : (columns : List Column) (rows : List (List Value)) (i : ℕ) (c : Cells) → length rows ≤ i → Filled columns (take i rows) c → Filled columns rows c
 filled_all columns rows i c le h = subst (λ (k : List (List Value)). Filled columns k c) (take_all i rows le) h
 
@@ -66,3 +68,20 @@ module _ (columns : List Column) (rows : List (List Value)) (c : Cells) (may : M
 
   pub filled_view : rows_of (width_in c) (length rows) (cells_in c) ≡ whole_rows rows
   filled_view = rw (h.wide, h.filled) (filled_rows columns rows may.fit)
+
+-- one more row has room
+pub filled_room : (columns : List Column) (rows : List (List Value)) (i : ℕ) (row : List Value) (c : Cells) → MayHold columns rows → i < length rows → row ≡ get_or rows i row
+    → Filled columns (take i rows) c → length (cells_in c) + length row ≤ most_cells
+filled_room columns rows i row c may lt is h =
+    let next : take (i + 1) rows ≡ take i rows ++ row ∷ [] = take_more rows i row lt ∙ ap (λ (x : List Value). take i rows ++ x ∷ []) (sym is) in
+    let fit : AllByRecursion (FitsColumns columns) (take (i + 1) rows) = fit_front (i + 1) rows may.fit in
+    let some : length (cells_of (whole_rows (take (i + 1) rows))) ≡ length (take (i + 1) rows) * length columns = filled_long columns (take (i + 1) rows) fit in
+    let less : length (take (i + 1) rows) * length columns ≤ length rows * length columns = mul-le-mul_right (length columns) (omega (arith, length-take (i + 1) rows)) in
+    let whole : cells_of (whole_rows (take (i + 1) rows)) ≡ cells_in c ++ whole_row row =
+    ap (λ (k : List (List Value)). cells_of (whole_rows k)) next ∙ ap cells_of (map-append whole_row (take i rows) (row ∷ [])) ∙ cells_push (whole_rows (take i rows)) (whole_row row) ∙ ap (λ (k : Row). k ++ whole_row row) (sym h.filled) in
+    omega (arith, ap length whole, length-append (cells_in c) (whole_row row), length-map row (λ (x : Value). Some x), some, less, may.few)
+  where
+    fit_front : (n : ℕ) (all : List (List Value)) → AllByRecursion (FitsColumns columns) all → AllByRecursion (FitsColumns columns) (take n all)
+    fit_front zero all f = tt
+    fit_front (suc n) [] f = tt
+    fit_front (suc n) (first ∷ rest) f = (f.0, fit_front n rest f.1)

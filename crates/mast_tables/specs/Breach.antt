@@ -1,7 +1,7 @@
 -- The rows of a table file, and the file's first breach.
-use Rattle.std.specs.Prelude.{◌≡◌, ℕ, ◌+◌, ◌<◌, ◌≤◌, min, ◌⊎◌, List, [], ◌∷◌, map, length, Option, Result, Ok, Err}
+use Rattle.std.specs.Prelude.{◌≡◌, ℕ, ◌+◌, ◌<◌, ◌≤◌, min, ◌⊎◌, List, [], ◌∷◌, map, length, Option, Result}
+use Rattle.mast_terms.specs.Answers.{Answers}
 use Rattle.mast_terms.specs.declared.memory.Stop.{Stop}
-use Rattle.mast_terms.specs.declared.memory.Stop.TheVariants as stop
 use Rattle.mast_terms.specs.declared.value.Value.{Value}
 use Rattle.mast_tables.specs.declared.declaration.Column.{Column}
 use Rattle.mast_tables.specs.declared.declaration.RowBreach.{RowBreach}
@@ -34,9 +34,10 @@ AreRows columns (fields ∷ records) (row ∷ rows) = IsRow columns fields row �
 -- the table has these rows: the first record is its header, and the others, at most so many, are the rows
 abbrev pub HasRows : List Column → ℕ → List Record → List Row → Type 0
 HasRows columns most [] rows = ⊥
-HasRows columns most (header ∷ records) rows = (header ≡ header_of columns) × (length records ≤ most) × AreRows columns records rows
+HasRows columns most (header ∷ records) rows =
+    (header ≡ header_of columns) × (length records ≤ most) × AreRows columns records rows
 
--- the first column, counted from this number, at which two headers differ; one that only one of them has counts as different
+-- the first column, counted from this number, at which two headers differ; a column of one of them alone differs
 abbrev pub DiffersAt : ℕ → Record → Record → ℕ → Type 0
 DiffersAt number [] [] column = ⊥
 DiffersAt number [] (cell ∷ cells) column = column ≡ number
@@ -52,16 +53,21 @@ IsWrongAt number (first ∷ columns) (cell ∷ cells) column wrong =
     ((column ≡ number) × IsWrong first cell wrong)
     ⊎ ((value : Option Value) × IsCell first cell value × IsWrongAt (number + 1) columns cells column wrong)
 
+-- the breach of a record that is not one too many and has the right width: its first wrong cell
+abbrev pub CellBreach : List Column → ℕ → ℕ → Record → ℕ → RowKind → Type 0
+CellBreach columns most number fields column wrong =
+    (number ≤ most) × (length fields ≡ length columns) × IsWrongAt 1 columns fields column wrong
+
 -- the breach of the record with this number, which is a row: too many rows, then a wrong width, then a wrong cell
 abbrev pub RecordBreach : List Column → ℕ → ℕ → Record → ℕ → RowKind → Type 0
 RecordBreach columns most number fields column kind.Rows = (most < number) × (column ≡ 0)
 RecordBreach columns most number fields column kind.Width =
     (number ≤ most) × (length fields ≡ length columns → ⊥) × (column ≡ min (length fields) (length columns) + 1)
 RecordBreach columns most number fields column kind.Header = ⊥
-RecordBreach columns most number fields column kind.NotUtf8 = (number ≤ most) × (length fields ≡ length columns) × IsWrongAt 1 columns fields column kind.NotUtf8
-RecordBreach columns most number fields column kind.Missing = (number ≤ most) × (length fields ≡ length columns) × IsWrongAt 1 columns fields column kind.Missing
-RecordBreach columns most number fields column kind.BadInt = (number ≤ most) × (length fields ≡ length columns) × IsWrongAt 1 columns fields column kind.BadInt
-RecordBreach columns most number fields column kind.BadDate = (number ≤ most) × (length fields ≡ length columns) × IsWrongAt 1 columns fields column kind.BadDate
+RecordBreach columns most number fields column kind.NotUtf8 = CellBreach columns most number fields column kind.NotUtf8
+RecordBreach columns most number fields column kind.Missing = CellBreach columns most number fields column kind.Missing
+RecordBreach columns most number fields column kind.BadInt = CellBreach columns most number fields column kind.BadInt
+RecordBreach columns most number fields column kind.BadDate = CellBreach columns most number fields column kind.BadDate
 
 -- the first breach of records from this number on: each record before it is a row
 abbrev pub RowsBreach : List Column → ℕ → ℕ → List Record → RowBreach → Type 0
@@ -77,8 +83,6 @@ HasBreach columns most (header ∷ records) breach =
     ((breach.number ≡ 0) × (breach.kind ≡ kind.Header) × DiffersAt 1 (header_of columns) header breach.column)
     ⊎ ((header ≡ header_of columns) × RowsBreach columns most 1 records breach)
 
--- the answer on a file: its rows, or its first breach; want of memory says nothing
+-- the answer on a file: its rows, or its first breach
 abbrev pub TellsFile : List Column → ℕ → List Record → Result (List Row) (Stop RowBreach) → Type 0
-TellsFile columns most records (Ok rows) = HasRows columns most records rows
-TellsFile columns most records (Err (stop.Named breach)) = HasBreach columns most records breach
-TellsFile columns most records (Err stop.NoMemory) = Unit {0}
+TellsFile columns most records result = Answers result (HasRows columns most records) (HasBreach columns most records)

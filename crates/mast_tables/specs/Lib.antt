@@ -1,8 +1,9 @@
 pub mod Breach
-pub mod Cells
-pub mod Marks
-pub mod Reading
+pub mod Laws
+pub mod Limits
 pub mod Records
 pub mod Rows
 pub mod Typed
+pub mod Values
 pub mod Whole
+pub mod inside

@@ -1,17 +1,11 @@
 -- A table as its rows of cells. Rows and columns count from 1.
-use Rattle.std.specs.Prelude.{◌≡◌, ℕ, zero, suc, ◌-◌, ◌*◌, ◌≤◌, List, [], ◌∷◌, ◌++◌, Option, None, length, take, drop, get_or, option_and_then}
+use Rattle.std.specs.Prelude.{ℕ, ◌-◌, ◌≤◌, List, [], ◌∷◌, ◌++◌, Option, None, length, get_or, option_and_then}
 use Rattle.mast_terms.specs.declared.value.Value.{Value}
-use Rattle.mast_tables.specs.declared.cells.Cells.{Cells}
-use Rattle.mast_tables.specs.Cells.{number_among, cells_in, width_in, AreCells}
+use Rattle.mast_tables.specs.Values.{number_among}
 
 -- a row of cells, each a value or missing
 abbrev pub Row : Type 0
 Row = List (Option Value)
-
--- so many rows of one width, from their cells one after another
-abbrev pub rows_of : ℕ → ℕ → List (Option Value) → List Row
-rows_of width zero cells = []
-rows_of width (suc count) cells = take width cells ∷ rows_of width count (drop width cells)
 
 -- the cells of rows, one after another
 abbrev pub cells_of : List Row → List (Option Value)
@@ -36,8 +30,3 @@ number_of rows value = number_among (cells_of rows) value
 -- the number of a cell's value
 abbrev pub number_at : List Row → ℕ → ℕ → Option ℕ
 number_at rows row column = option_and_then (number_of rows) (cell_at rows row column)
-
--- so many rows have these cells
-pub record IsGrid (count : ℕ) (c : Cells) : Type 0 where
-  pub cells : AreCells c
-  pub size : length (cells_in c) ≡ count * width_in c

@@ -1,5 +1,5 @@
 -- Cells by the kind of their column.
-use Rattle.std.specs.Prelude.{◌≡◌, ℕ, true, false, List, [], Option, Some, None, Result, Ok, Err, IsUtf8}
+use Rattle.std.specs.Prelude.{◌≡◌, ℕ, true, false, List, [], Option, Some, None, IsUtf8}
 use Rattle.mast_terms.specs.declared.value.Kind.{Kind}
 use Rattle.mast_terms.specs.declared.value.Kind.TheVariants as kind
 use Rattle.mast_terms.specs.declared.value.Value.{Value}
@@ -10,8 +10,6 @@ use Rattle.mast_terms.specs.Printed.{date_text}
 use Rattle.mast_tables.specs.declared.declaration.Column.{Column}
 use Rattle.mast_tables.specs.declared.declaration.RowKind.{RowKind}
 use Rattle.mast_tables.specs.declared.declaration.RowKind.TheVariants as row
-use Rattle.mast_tables.specs.declared.typed.Content.{Content}
-use Rattle.mast_tables.specs.declared.typed.Content.TheVariants as held
 
 -- a cell of this kind has this value
 abbrev pub Gives : Kind → List ℕ → Value → Type 0
@@ -25,7 +23,7 @@ Gives kind.Integer cell (v.Date date) = ⊥
 Gives kind.Date cell (v.Text text) = ⊥
 Gives kind.Date cell (v.Int number) = ⊥
 
--- an empty cell of a marked column is missing
+-- an empty cell of a column that may have missing cells is missing
 abbrev pub IsMissing : Column → List ℕ → Type 0
 IsMissing column cell = (column.null ≡ true) × (cell ≡ [])
 
@@ -43,15 +41,3 @@ IsWrong column cell row.BadDate = IsUtf8 cell × (cell ≡ [] → ⊥) × (colum
 IsWrong column cell row.Header = ⊥
 IsWrong column cell row.Rows = ⊥
 IsWrong column cell row.Width = ⊥
-
--- the value that is held, None for a missing cell
-abbrev pub value_of : Content → Option Value
-value_of held.Missing = None
-value_of (held.Text text) = Some (v.Text text.now)
-value_of (held.Lent value) = Some value.now
-value_of (held.Other value) = Some value
-
--- the answer on a cell: what it holds, or what is wrong with it
-abbrev pub TellsCell : Column → List ℕ → Result Content RowKind → Type 0
-TellsCell column cell (Ok content) = IsCell column cell (value_of content)
-TellsCell column cell (Err wrong) = IsWrong column cell wrong

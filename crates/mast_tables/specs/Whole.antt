@@ -6,6 +6,7 @@ use Rattle.mast_terms.specs.declared.value.Kind.TheVariants as kind
 use Rattle.mast_terms.specs.declared.value.Value.{Value}
 use Rattle.mast_terms.specs.declared.value.Value.TheVariants as v
 use Rattle.mast_tables.specs.declared.declaration.Column.{Column}
+use Rattle.mast_tables.specs.Limits.{most_given}
 use Rattle.mast_tables.specs.Rows.{Row}
 
 -- the kind of a value
@@ -18,11 +19,11 @@ value_kind (v.Date date) = kind.Date
 abbrev pub FitsColumns : List Column → List Value → Type 0
 FitsColumns columns values = AllZip (λ column value. value_kind value ≡ column.kind) columns values
 
--- a table may have these rows: it has a column, each row fits the columns, and there are at most 4,000,000,000 cells
+-- a table may have these rows: it has a column, each row fits the columns, and the cells are not too many
 pub record MayHold (columns : List Column) (rows : List (List Value)) : Type 0 where
   pub wide : 1 ≤ length columns
   pub fit : AllByRecursion (FitsColumns columns) rows
-  pub few : length rows * length columns ≤ 4000000000
+  pub few : length rows * length columns ≤ most_given
 
 -- a row of these values, none of which is missing
 abbrev pub whole_row : List Value → Row

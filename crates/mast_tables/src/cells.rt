@@ -1,30 +1,29 @@
-// The cells of a table, row by row, by the numbers of their values.
-ghost use Rattle.std.specs.Prelude.{◌≡◌, ◌+◌, ◌*◌, ◌<◌, ◌≤◌, ◌∷◌, ◌++◌, [], Some, None, false, IfOk, OnOk, length, get_or, option_copied, option_and_then};
-ghost use Rattle.std.specs.List.{list_any, position};
+//! The cells of a table, row by row, by the codes of their values.
+ghost use Rattle.std.specs.Prelude.{◌≡◌, ◌+◌, ◌*◌, ◌<◌, ◌≤◌, ◌∷◌, ◌++◌, [], Some, false, IfOk, OnOk, length, option_copied, option_and_then};
+ghost use Rattle.std.specs.List.{IsDistinct, list_any, position};
 ghost use Rattle.mast_terms.specs.declared.value.Value.TheVariants as v;
-ghost use Rattle.mast_tables.specs.Cells.{AreCells, AreNumbered, IsMarked, cells_in, width_in, number_among, same};
-ghost use Rattle.mast_tables.specs.Typed.{value_of};
+ghost use Rattle.mast_tables.specs.Limits.{most_cells};
+ghost use Rattle.mast_tables.specs.Values.{number_among, same};
+ghost use Rattle.mast_tables.specs.inside.Cells.{AreCells, HaveRoom, IsCoded, cell_in, cells_in, width_in};
+ghost use Rattle.mast_tables.specs.inside.Reading.{value_of};
 
-use crate::marks::Marks;
+use crate::codes::Codes;
 use crate::typed::Content;
 use indexmap::IndexSet;
 use mast_terms::{NoMemory, Text, Value};
 use std::alloc::Global;
 
-// There are at most so many different values.
-const MOST_NUMBERS: usize = 4294967295;
-
-// Each different value stands once. The mark of a cell is 0 where it is missing, or else its value's number and one.
+// Each different value stands once. The code of a cell is 0 where it is missing, or else its value's number and one.
 // A text that takes memory is looked up by the key, and copied only where it is new; so is a value that is lent.
 #[derive(Drop)]
 pub(crate) struct Cells {
     values: IndexSet<Value>,
-    marks: Marks,
+    codes: Codes,
     key: Value,
 }
 
 impl Cells {
-    /// No cell, of rows with so many.
+    // No cell, of rows with so many.
     pub(crate) fn new(alloc: Global, width: usize) -> Result<Cells, NoMemory>
         ensures none { IfOk result (λ cells. cells_in cells ≡ []) }
         ensures wide { IfOk result (λ cells. width_in cells ≡ width) }
@@ -32,117 +31,116 @@ impl Cells {
     {
         Ok(Cells {
             values: IndexSet::new(alloc),
-            marks: Marks::new(alloc, width)?,
+            codes: Codes::new(alloc, width)?,
             key: Value::Text(Text::from_str(alloc, "")?),
         })
     }
 
-    /// Adds a cell behind the others. After a want of memory the cells are of no use.
+    // Adds a cell behind the others. After a want of memory the cells are of no use.
     pub(crate) fn push(&mut self, alloc: Global, content: Content<'_>) -> Result<(), NoMemory>
         requires cells { AreCells self.old }
         requires wide { 0 < width_in self.old }
+        requires room { length (cells_in self.old) < most_cells }
         ensures pushed { OnOk result (cells_in self.new ≡ cells_in self.old ++ value_of content.entry ∷ []) }
         ensures wide { OnOk result (width_in self.new ≡ width_in self.old) }
         ensures cells { OnOk result (AreCells self.new) }
     {
-        let mark = self.mark(alloc, content)?;
-        self.marks.push(mark)?;
+        let code = self.code(alloc, content)?;
+        self.codes.push(code)?;
         Ok(())
     }
 
-    // The mark of a cell. Its value goes behind the others where it is new.
-    fn mark(&mut self, alloc: Global, content: Content<'_>) -> Result<u32, NoMemory>
-        requires { AreNumbered self.old.values.keys }
-        ensures marked { IfOk result (IsMarked self.old.values.keys (value_of content.entry) self.new.values.keys) }
-        ensures numbered { OnOk result (AreNumbered self.new.values.keys) }
-        ensures same { OnOk result (self.new.marks ≡ self.old.marks) }
+    // The code of a cell. Its value goes behind the others where it is new.
+    fn code(&mut self, alloc: Global, content: Content<'_>) -> Result<u32, NoMemory>
+        requires { HaveRoom self.old.values.keys }
+        ensures coded { IfOk result (IsCoded self.old.values.keys (value_of content.entry) self.new.values.keys) }
+        ensures apart { OnOk result (IsDistinct same self.new.values.keys) }
+        ensures same { OnOk result (self.new.codes ≡ self.old.codes) }
     {
         match content {
             Content::Missing => Ok(0),
-            Content::Text(text) => self.mark_text(alloc, text),
-            Content::Lent(value) => self.mark_lent(alloc, value),
-            Content::Other(value) => self.mark_value(value),
+            Content::Text(text) => self.code_of_text(alloc, text),
+            Content::Lent(value) => self.code_of_lent(alloc, value),
+            Content::Other(value) => self.code_of_value(value),
         }
     }
 
-    fn mark_text(&mut self, alloc: Global, text: &str) -> Result<u32, NoMemory>
-        requires { AreNumbered self.old.values.keys }
-        ensures marked { IfOk result (IsMarked self.old.values.keys (Some (v.Text text.now)) self.new.values.keys) }
-        ensures numbered { OnOk result (AreNumbered self.new.values.keys) }
-        ensures same { OnOk result (self.new.marks ≡ self.old.marks) }
+    fn code_of_text(&mut self, alloc: Global, text: &str) -> Result<u32, NoMemory>
+        requires { HaveRoom self.old.values.keys }
+        ensures coded { IfOk result (IsCoded self.old.values.keys (Some (v.Text text.now)) self.new.values.keys) }
+        ensures apart { OnOk result (IsDistinct same self.new.values.keys) }
+        ensures same { OnOk result (self.new.codes ≡ self.old.codes) }
     {
         if text.len() <= Text::IN_PLACE {
-            return self.mark_value(Value::Text(Text::from_str(alloc, text)?));
+            return self.code_of_value(Value::Text(Text::from_str(alloc, text)?));
         }
         match self.find_text(alloc, text)? {
             Some(number) => Ok(number as u32 + 1),
-            None => self.mark_value(Value::Text(Text::from_str(alloc, text)?)),
+            None => self.code_of_value(Value::Text(Text::from_str(alloc, text)?)),
         }
     }
 
-    fn mark_lent(&mut self, alloc: Global, value: &Value) -> Result<u32, NoMemory>
-        requires { AreNumbered self.old.values.keys }
-        ensures marked { IfOk result (IsMarked self.old.values.keys (Some value.now) self.new.values.keys) }
-        ensures numbered { OnOk result (AreNumbered self.new.values.keys) }
-        ensures same { OnOk result (self.new.marks ≡ self.old.marks) }
+    fn code_of_lent(&mut self, alloc: Global, value: &Value) -> Result<u32, NoMemory>
+        requires { HaveRoom self.old.values.keys }
+        ensures coded { IfOk result (IsCoded self.old.values.keys (Some value.now) self.new.values.keys) }
+        ensures apart { OnOk result (IsDistinct same self.new.values.keys) }
+        ensures same { OnOk result (self.new.codes ≡ self.old.codes) }
     {
         match self.values.get_index_of(value) {
             Some(number) => Ok(number as u32 + 1),
-            None => self.mark_value(value.copy(alloc)?),
+            None => self.code_of_value(value.copy(alloc)?),
         }
     }
 
-    fn mark_value(&mut self, value: Value) -> Result<u32, NoMemory>
-        requires { AreNumbered self.old.values.keys }
-        ensures marked { IfOk result (IsMarked self.old.values.keys (Some value) self.new.values.keys) }
-        ensures numbered { OnOk result (AreNumbered self.new.values.keys) }
-        ensures same { OnOk result (self.new.marks ≡ self.old.marks) }
+    // The set alone may want memory: a value has a number, since there are no more values than cells.
+    fn code_of_value(&mut self, value: Value) -> Result<u32, NoMemory>
+        requires { HaveRoom self.old.values.keys }
+        ensures coded { IfOk result (IsCoded self.old.values.keys (Some value) self.new.values.keys) }
+        ensures apart { OnOk result (IsDistinct same self.new.values.keys) }
+        ensures same { OnOk result (self.new.codes ≡ self.old.codes) }
     {
         let (number, _) = self.values.insert_full(value)?;
-        if self.values.len() > MOST_NUMBERS {
-            return Err(NoMemory);
-        }
         Ok(number as u32 + 1)
     }
 
     // The number of a text that a cell has.
     fn find_text(&mut self, alloc: Global, text: &str) -> Result<Option<usize>, NoMemory>
         ensures found { IfOk result (λ found. found ≡ position (same (v.Text text.now)) self.old.values.keys) }
-        ensures same { OnOk result ((self.new.values ≡ self.old.values) × (self.new.marks ≡ self.old.marks)) }
+        ensures same { OnOk result ((self.new.values ≡ self.old.values) × (self.new.codes ≡ self.old.codes)) }
     {
         set_text(&mut self.key, alloc, text)?;
         Ok(self.values.get_index_of(&self.key))
     }
 
-    /// The value of the cell of a whole row in a column. Both count from 0.
+    // The value of the cell of a whole row in a column. Both count from 0.
     pub(crate) fn value(&self, row: usize, column: usize) -> Option<&Value>
         requires cells { AreCells self.now }
         requires row { (row + 1) * width_in self.now ≤ length (cells_in self.now) }
         requires column { column < width_in self.now }
-        ensures { option_copied result ≡ get_or (cells_in self.now) (row * width_in self.now + column) None }
+        ensures { option_copied result ≡ cell_in self.now row column }
     {
-        let mark = self.marks.get(row, column);
-        if mark == 0 {
+        let code = self.codes.get(row, column);
+        if code == 0 {
             return None;
         }
-        self.values.get_index(mark as usize - 1)
+        self.values.get_index(code as usize - 1)
     }
 
-    /// The number of that cell's value.
+    // The number of that cell's value.
     pub(crate) fn number(&self, row: usize, column: usize) -> Option<u32>
         requires cells { AreCells self.now }
         requires row { (row + 1) * width_in self.now ≤ length (cells_in self.now) }
         requires column { column < width_in self.now }
-        ensures { result ≡ option_and_then (number_among (cells_in self.now)) (get_or (cells_in self.now) (row * width_in self.now + column) None) }
+        ensures { result ≡ option_and_then (number_among (cells_in self.now)) (cell_in self.now row column) }
     {
-        let mark = self.marks.get(row, column);
-        if mark == 0 {
+        let code = self.codes.get(row, column);
+        if code == 0 {
             return None;
         }
-        Some(mark - 1)
+        Some(code - 1)
     }
 
-    /// The number of a value that a cell has.
+    // The number of a value that a cell has.
     pub(crate) fn find(&self, value: &Value) -> Option<u32>
         requires { AreCells self.now }
         ensures { result ≡ number_among (cells_in self.now) value.now }
@@ -153,7 +151,7 @@ impl Cells {
         }
     }
 
-    /// The same cells.
+    // The same cells.
     pub(crate) fn copy(&self, alloc: Global) -> Result<Cells, NoMemory>
         requires { AreCells self.now }
         ensures cells { IfOk result (λ cells. cells_in cells ≡ cells_in self.now) }
@@ -162,7 +160,7 @@ impl Cells {
     {
         Ok(Cells {
             values: copied_values(alloc, &self.values)?,
-            marks: self.marks.copy(alloc)?,
+            codes: self.codes.copy(alloc)?,
             key: Value::Text(Text::from_str(alloc, "")?),
         })
     }

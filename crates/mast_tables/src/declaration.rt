@@ -1,4 +1,4 @@
-// Declared tables, and the breach of a table file.
+//! Declared tables, and the breach of a table file.
 use mast_terms::{Kind, List, Text};
 
 /// A declared table: its name, its file and its columns in order.
@@ -28,7 +28,7 @@ pub enum RowKind {
     Width,
     /// A cell is no UTF-8.
     NotUtf8,
-    /// A cell is empty, and its column is neither of texts nor marked as one that may have missing cells.
+    /// A cell is empty, and its column is neither of texts nor one that may have missing cells.
     Missing,
     /// A cell of an integer column is no integer, or one out of range.
     BadInt,

@@ -1,17 +1,15 @@
-//! Typed tables: the rows of a table file, each cell read by the kind of its column, and the first breach of such a file.
-//! The crates above rest on `load`: it gives exactly the rows of a file without a breach, or else the file's first breach.
-//! The words are defined in specs/Breach.antt, a file's rows and its first breach, and in Records, Typed and Rows beside it.
+//! Typed tables: the rows of a table file, each cell read by the kind of its column, and the file's first breach.
+//! The crates above rest on `load`: it gives exactly the rows of a file without a breach, or else its first breach.
+//! The words are defined in specs/Breach.antt, and in Records, Typed, Rows, Values and Whole beside it.
 //! It must not know of files and sinks, of mappings and queries, or of how a refusal is printed.
 #![tactic(auto)]
 
 mod cells;
+mod codes;
 mod declaration;
 mod laws;
-mod marks;
 mod table;
 mod table_file;
-#[cfg(test)]
-mod tests;
 mod typed;
 
 pub use declaration::{Column, RowBreach, RowKind, TableDecl};

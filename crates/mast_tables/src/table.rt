@@ -1,9 +1,10 @@
-// Tables.
-ghost use Rattle.std.specs.Prelude.{◌≡◌, ◌<◌, IfOk, OnOk, length, option_copied};
-ghost use Rattle.mast_tables.specs.Cells.{AreCells, width_in};
-ghost use Rattle.mast_tables.specs.Reading.{Adds};
+//! Tables, their cells and the numbers of their values.
+ghost use Rattle.std.specs.Prelude.{◌≡◌, ◌+◌, ◌<◌, ◌≤◌, IfOk, OnOk, length, option_copied};
+ghost use Rattle.mast_tables.specs.Limits.{most_cells};
 ghost use Rattle.mast_tables.specs.Rows.{IsPlace, cell_at, number_at, number_of};
 ghost use Rattle.mast_tables.specs.Whole.{MayHold, whole_row, whole_rows};
+ghost use Rattle.mast_tables.specs.inside.Cells.{AreCells, cells_in, width_in};
+ghost use Rattle.mast_tables.specs.inside.Reading.{Adds};
 
 use crate::TableDecl;
 use crate::cells::Cells;
@@ -22,8 +23,8 @@ pub struct Table {
 
 impl Model for Table {
     ghost use Rattle.std.specs.Prelude.{List};
-    ghost use Rattle.mast_tables.specs.Rows.{Row, rows_of, IsGrid};
-    ghost use Rattle.mast_tables.specs.Cells.{cells_in, width_in};
+    ghost use Rattle.mast_tables.specs.Rows.{Row};
+    ghost use Rattle.mast_tables.specs.inside.Cells.{IsGrid, cells_in, rows_of, width_in};
 
     ghost Value = { List Row };
 
@@ -95,6 +96,7 @@ impl Table {
 fn push_row(alloc: Global, values: &[Value], cells: &mut Cells) -> Result<(), NoMemory>
     requires cells { AreCells cells.old }
     requires wide { 0 < width_in cells.old }
+    requires room { length (cells_in cells.old) + length values.now ≤ most_cells }
     ensures { OnOk result (Adds cells.old cells.new (whole_row values.now)) }
 {
     for value in values {

@@ -1,16 +1,17 @@
-// Table files.
-ghost use Rattle.std.specs.Prelude.{◌≡◌, ◌<◌, ◌≤◌, ◌+◌, ◌++◌, ◌↔◌, IsTrue, IfSome, IfNone, IfOk, length, get_or, []};
-ghost use Rattle.csv.specs.Reading.{source_of, records_from, default_config, reader_state};
+//! Table files: a file's records, and the table that they are or the first breach.
+ghost use Rattle.std.specs.Prelude.{◌≡◌, ◌<◌, ◌≤◌, ◌+◌, ◌↔◌, IsTrue, IfSome, IfNone, IfOk, length, get_or, []};
+ghost use Rattle.csv.specs.Reading.{error_kind, reader_state, source_of};
 ghost use Rattle.csv.specs.Records.{fields_of};
 ghost use Rattle.mast_tables.specs.Breach.{DiffersAt, header_of, TellsFile};
-ghost use Rattle.mast_tables.specs.Cells.{AreCells, cells_in, width_in};
-ghost use Rattle.mast_tables.specs.Reading.{TellsCells, TellsRow, TellsRecords, HasNext};
-ghost use Rattle.mast_tables.specs.Records.{records_of, IsPlain};
+ghost use Rattle.mast_tables.specs.Limits.{most_cells};
+ghost use Rattle.mast_tables.specs.Records.{records_of};
+ghost use Rattle.mast_tables.specs.inside.Cells.{AreCells, cells_in, width_in};
+ghost use Rattle.mast_tables.specs.inside.Reading.{IsOfReading, IsPlain, LeavesRoom, TakesNext, TellsAll, TellsCells, TellsRest, TellsRow};
 
 use crate::cells::Cells;
 use crate::typed::read_cell;
 use crate::{Column, RowBreach, RowKind, Table, TableDecl};
-use csv::{ByteRecord, Reader, ReaderBuilder};
+use csv::{ByteRecord, Error, Reader, ReaderBuilder};
 use mast_terms::{NoMemory, Stop};
 use std::alloc::Global;
 use std::io::Read;
@@ -28,8 +29,8 @@ pub fn load(
     decl: &TableDecl,
     most: u32,
 ) -> Result<Table, Stop<RowBreach>>
-    requires small { length bytes.now < 4294967295 }
-    requires columns { length decl.now.columns < 4294967295 }
+    requires small { length bytes.now < most_cells }
+    requires columns { length decl.now.columns < most_cells }
     ensures { TellsFile decl.now.columns most (records_of bytes.now) result }
 {
     let mut reader = ReaderBuilder::new()
@@ -53,9 +54,10 @@ fn read_table<R: Read>(
     most: u32,
     turns: u32,
 ) -> Result<Table, Stop<RowBreach>>
-    requires columns { length columns.now < 4294967295 }
+    requires columns { length columns.now < most_cells }
     requires plain { IsPlain reader.old }
-    ensures { IfSome (source_of R.remaining reader.old) (λ bytes. TellsFile columns.now most (records_from default_config (turns + 1) (reader_state reader.old) bytes) result) }
+    requires room { LeavesRoom 0 (source_of R.remaining reader.old) (reader_state reader.old) }
+    ensures { TellsAll columns.now most turns (source_of R.remaining reader.old) (reader_state reader.old) result }
 {
     let mut line = ByteRecord::new(alloc);
     if !next(reader, &mut line)? {
@@ -79,18 +81,26 @@ fn read_table<R: Read>(
 fn next<R: Read>(reader: &mut Reader<R>, line: &mut ByteRecord) -> Result<bool, NoMemory>
     requires { IsPlain reader.old }
     ensures plain { IfOk result (λ _. IsPlain reader.new) }
-    ensures read { IfOk result (λ found. HasNext (source_of R.remaining reader.old) (reader_state reader.old) (source_of R.remaining reader.new) (reader_state reader.new) found (fields_of line.new)) }
+    ensures read { IfOk result (λ found. TakesNext R.remaining reader.old reader.new found (fields_of line.new)) }
 {
     match reader.read_byte_record(line) {
         Ok(found) => Ok(found),
-        // Nothing but want of memory, or a fault of the reader underneath, which a slice does not have.
-        Err(_) => Err(NoMemory),
+        Err(error) => Err(want_of_memory(error)),
     }
+}
+
+// The answer on an error of reading alone: want of memory, or a fault of what is read from. Bytes in memory have no
+// faults, but the reader's contract does not say so; want of memory is the one answer that says nothing of the file.
+fn want_of_memory(error: Error) -> NoMemory
+    requires { IsOfReading (error_kind error) }
+{
+    drop(error);
+    NoMemory
 }
 
 // The least column at which header and declaration differ.
 fn header_breach(header: &ByteRecord, columns: &[Column]) -> Option<u32>
-    requires { length columns.now < 4294967295 }
+    requires { length columns.now < most_cells }
     ensures differs { IfSome result (λ column. DiffersAt 1 (header_of columns.now) (fields_of header.now) column) }
     ensures same { IfNone result (fields_of header.now ≡ header_of columns.now) }
 {
@@ -123,9 +133,10 @@ fn read_rows<R: Read>(
     most: u32,
     turns: u32,
 ) -> Result<Table, Stop<RowBreach>>
-    requires columns { length columns.now < 4294967295 }
+    requires columns { length columns.now < most_cells }
     requires plain { IsPlain reader.old }
-    ensures { IfSome (source_of R.remaining reader.old) (λ bytes. TellsRecords columns.now most (records_from default_config turns (reader_state reader.old) bytes) result) }
+    requires room { LeavesRoom 0 (source_of R.remaining reader.old) (reader_state reader.old) }
+    ensures { TellsRest columns.now most turns (source_of R.remaining reader.old) (reader_state reader.old) result }
 {
     let mut cells = Cells::new(alloc, columns.len())?;
     for row in 0..turns {
@@ -149,9 +160,10 @@ fn read_row(
     number: u32,
     cells: &mut Cells,
 ) -> Result<(), Stop<RowBreach>>
-    requires columns { length columns.now < 4294967295 }
+    requires columns { length columns.now < most_cells }
     requires cells { AreCells cells.old }
     requires wide { width_in cells.old ≡ length columns.now }
+    requires room { length (cells_in cells.old) + length (fields_of line.now) ≤ most_cells }
     ensures { TellsRow columns.now most number (fields_of line.now) cells.old cells.new result }
 {
     if number > most {
@@ -179,10 +191,11 @@ fn read_cells(
     number: u32,
     cells: &mut Cells,
 ) -> Result<(), Stop<RowBreach>>
-    requires columns { length columns.now < 4294967295 }
+    requires columns { length columns.now < most_cells }
     requires width { length (fields_of line.now) ≡ length columns.now }
     requires cells { AreCells cells.old }
     requires wide { width_in cells.old ≡ length columns.now }
+    requires room { length (cells_in cells.old) + length (fields_of line.now) ≤ most_cells }
     ensures { TellsCells columns.now number (fields_of line.now) cells.old cells.new result }
 {
     for (i, column) in columns.iter().enumerate() {

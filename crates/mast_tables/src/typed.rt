@@ -1,13 +1,14 @@
-// Cells by the kind of their column.
+//! Cells by the kind of their column.
 ghost use Rattle.std.specs.Prelude.{◌≡◌, [], ⊤, IsUtf8};
 ghost use Rattle.mast_terms.specs.declared.value.Kind.TheVariants as kind;
-ghost use Rattle.mast_tables.specs.Typed.{IsMissing, TellsCell};
+ghost use Rattle.mast_tables.specs.Typed.{IsMissing};
+ghost use Rattle.mast_tables.specs.inside.Reading.{TellsCell};
 
 use crate::{Column, RowKind};
 use mast_terms::{Kind, Value, read_date, read_int};
 
-/// What a cell holds. A text is lent by its record, and a value that is there by who has it, so that no cell takes
-/// memory before it is known to be new.
+// What a cell holds. A text is lent by its record, and a value that is there by who has it, so that no cell takes
+// memory before it is known to be new.
 #[derive(Drop)]
 pub(crate) enum Content<'a> {
     Missing,
@@ -16,7 +17,7 @@ pub(crate) enum Content<'a> {
     Other(Value),
 }
 
-/// What a cell holds, or what is wrong with it.
+// What a cell holds, or what is wrong with it.
 pub(crate) fn read_cell<'a>(cell: &'a [u8], column: &Column) -> Result<Content<'a>, RowKind>
     ensures { TellsCell column.now cell.now result }
 {

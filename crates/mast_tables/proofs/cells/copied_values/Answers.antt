@@ -1,7 +1,7 @@
 use Rattle.std.proofs.Common.{◌≡◌, ◌+◌, ◌++◌, ◌∷◌, drop, ap, sym, ◌∙◌}
 use Rattle.mast_terms.specs.contracts.value.ValueEq.TheImpl.Laws as laws
 use Rattle.mast_terms.proofs.PlaceLemmas.{absent_before, drop-next}
-use Rattle.mast_tables.specs.Cells.{same}
+use Rattle.mast_tables.specs.Values.{same}
 use Rattle.mast_tables.proofs.cells.copied_values.Goals as goal
 
 pub put_last-requires : goal.put_last-requires

@@ -1,5 +1,5 @@
 use Rattle.std.proofs.Common.{take}
-use Rattle.mast_tables.specs.Reading.{Adds}
+use Rattle.mast_tables.specs.inside.Reading.{Adds}
 use Rattle.mast_tables.specs.Whole.{whole_row}
 use Rattle.mast_tables.proofs.table.push_row.Given as goal
 

@@ -2,7 +2,7 @@ use Rattle.std.proofs.Common.{◌≡◌, ◌<◌, ◌+◌, ◌∷◌, ℕ, List,
 use Rattle.std.proofs.lemmas.List.{drop_more}
 use Rattle.csv.specs.Records.{fields_of}
 use Rattle.mast_tables.specs.declared.declaration.Column.{Column}
-use Rattle.mast_tables.specs.Typed.{value_of}
+use Rattle.mast_tables.specs.inside.Reading.{value_of}
 use Rattle.mast_tables.proofs.ReadingLemmas.{begun_more, begun_all, begun_wrong}
 use Rattle.mast_tables.proofs.table_file.read_cells.Goals as goal
 

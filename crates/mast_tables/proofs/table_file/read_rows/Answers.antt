@@ -1,9 +1,19 @@
-use Rattle.std.proofs.Common.{◌+◌, ◌-◌, ◌∙◌, arith}
+use Rattle.std.proofs.Common.{◌+◌, ◌-◌, ◌∙◌, length, arith}
 use Rattle.std.proofs.lemmas.Option.{IfSome_then}
 use Rattle.csv.specs.Reading.{source_of, reader_state}
 use Rattle.csv.specs.Records.{fields_of}
 use Rattle.mast_tables.proofs.RecordsLemmas.{passes_end, passes_stopped, answered, passes_more, passes_out, size_more}
+use Rattle.mast_tables.proofs.RoomLemmas.{leaves_more, leaves_row, leaves_within}
+use Rattle.mast_tables.specs.inside.Cells.{cells_in}
 use Rattle.mast_tables.proofs.table_file.read_rows.Goals as goal
+
+pub read_row-requires-clause-room : goal.read_row-requires-clause-room
+read_row-requires-clause-room g c =
+    let loop = c.loop-row in
+    let rem = g.R.Read.remaining in
+    let h = rw c.if-not-branch.false at c.in_ok-next.ensures.read in
+    leaves_within (source_of rem c.next.new.reader) (reader_state c.next.new.reader) _
+    (leaves_more (source_of rem loop.reader) (source_of rem c.next.new.reader) (reader_state loop.reader) (reader_state c.next.new.reader) (length (cells_in loop.cells)) (fields_of c.next.new.line) h loop.invariant.room)
 
 pub returns-then-not-branch : goal.returns-then-not-branch
 returns-then-not-branch g c =
@@ -37,6 +47,8 @@ loop-row-preserved g c =
       cells = r.3.cells;
       wide = r.3.wide ∙ loop.invariant.wide;
       size = size_more columns fields loop.cells c.read_row.new.cells loop.row r.0 r.2 r.3.added loop.invariant.size;
+      room = leaves_row (source_of rem loop.reader) (source_of rem c.next.new.reader) (reader_state loop.reader) (reader_state c.next.new.reader)
+          columns fields r.0 loop.cells c.read_row.new.cells h r.2 r.3.added loop.invariant.room;
       told = IfSome_then (source_of rem c.args.reader.now) loop.invariant.told (λ bytes l.
           passes_more (source_of rem loop.reader) (source_of rem c.next.new.reader) (reader_state loop.reader) (reader_state c.next.new.reader)
           columns c.args.most loop.row (c.args.turns - loop.row) (c.args.turns - (loop.row + 1)) fields loop.cells c.read_row.new.cells _ (omega arith) h r loop.invariant.size l);

@@ -1,7 +1,8 @@
 use Rattle.std.proofs.Common.{◌∙◌, ap, sym, List}
 use Rattle.std.specs.Prelude.{Option}
 use Rattle.mast_terms.specs.declared.value.Value.{Value}
-use Rattle.mast_tables.specs.Cells.{cells_in, width_in, number_among}
+use Rattle.mast_tables.specs.inside.Cells.{cells_in, width_in}
+use Rattle.mast_tables.specs.Values.{number_among}
 use Rattle.mast_tables.proofs.RowsLemmas.{view_cells}
 use Rattle.mast_tables.proofs.table.Table.find.Goals as goal
 

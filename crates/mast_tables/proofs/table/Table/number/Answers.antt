@@ -1,5 +1,5 @@
 use Rattle.std.proofs.Common.{◌∙◌}
-use Rattle.mast_tables.specs.Cells.{cells_in, width_in}
+use Rattle.mast_tables.specs.inside.Cells.{cells_in, width_in}
 use Rattle.mast_tables.proofs.RowsLemmas.{view_row, view_column, view_number}
 use Rattle.mast_tables.proofs.table.Table.number.Goals as goal
 

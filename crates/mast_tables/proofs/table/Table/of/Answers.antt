@@ -1,6 +1,10 @@
 use Rattle.std.proofs.Common.{arith}
-use Rattle.mast_tables.proofs.WholeLemmas.{filled_more, filled_all, filled_size, filled_view}
+use Rattle.mast_tables.proofs.WholeLemmas.{filled_more, filled_room, filled_all, filled_size, filled_view}
 use Rattle.mast_tables.proofs.table.Table.of.Goals as goal
+
+pub push_row-requires-clause-room : goal.push_row-requires-clause-room
+push_row-requires-clause-room c =
+    rw c.as_slice-in-loop-row.ensures (filled_room c.args.decl.now.columns c.args.rows.now c.loop-row.row-index c.row-item.result c.loop-row.cells c.requires c.loop-row-test.true c.row-item.is c.loop-row.invariant)
 
 pub loop-row-preserved : goal.loop-row-preserved
 loop-row-preserved c =

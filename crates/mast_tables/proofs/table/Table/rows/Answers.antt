@@ -1,4 +1,4 @@
-use Rattle.mast_tables.specs.Cells.{cells_in, width_in}
+use Rattle.mast_tables.specs.inside.Cells.{cells_in, width_in}
 use Rattle.mast_tables.proofs.RowsLemmas.{view_rows}
 use Rattle.mast_tables.proofs.table.Table.rows.Goals as goal
 
