@@ -7,7 +7,8 @@ use Rattle.std.proofs.lemmas.List.{length-append, take_rest}
 use Rattle.std.proofs.lemmas.Bool.Decides.{nat_tests}
 use Rattle.mast_terms.specs.Calendar.{IsDay, days_of}
 use Rattle.mast_terms.specs.Cells.{Begins}
-use Rattle.mast_terms.specs.DateCell.{IsDateText, After, Stops, NotShown, BeginsNumber, EndsNumber, year_text, dashed, least_in_century}
+use Rattle.mast_terms.specs.DateCell.{IsDateText}
+use Rattle.mast_terms.specs.inside.DateParts.{After, Stops, NotShown, BeginsNumber, EndsNumber, year_text, dashed, least_in_century}
 use Rattle.mast_terms.specs.Printed.{two_digits, date_text}
 use Rattle.mast_terms.specs.declared.date.Date.{Date}
 
@@ -95,6 +96,7 @@ no_dash least most h = record {
   longest = λ n number more rest le l m e. le;
 }
 
+-- another byte than a hyphen comes first
 pub not_dash : (least most b : ℕ) (bs : List ℕ) → least ≤ most → (b ≡ 45 → ⊥) → NotShown dashed least most (b ∷ bs) 0
 not_dash least most b bs h bad = record {
   within = omega arith;
@@ -123,6 +125,7 @@ after_dash least most ds at h = record {
       let tail : take n ds ++ more ≡ two_digits number ++ rest = cc in
       let small = h.longest n number more rest (omega arith) l m tail in omega arith
 
+-- a hyphen, and then what is no number
 pub dash_then : (least most : ℕ) (ds : List ℕ) (at : ℕ) → NotShown two_digits least most ds at → NotShown dashed least most (45 ∷ ds) (1 + at)
 dash_then least most ds at h = let e : suc at ≡ 1 + at = omega arith in subst (NotShown dashed least most (45 ∷ ds)) e (after_dash least most ds at h)
 
@@ -168,6 +171,7 @@ step Accepted front rest at h = record {
   far : (n : ℕ) → n ≤ length (front ++ rest) → Begins Accepted (take n (front ++ rest)) → n ≤ length front + at
   far n le a = by n (n - length front) refl le a
 
+-- what stops the rest of a text stops the text
 pub step_stops : (Accepted : List ℕ → Type 0) (front rest bytes : List ℕ) (at : ℕ) → bytes ≡ front ++ rest → Stops (λ t. Accepted (front ++ t)) rest at → Stops Accepted bytes (length front + at)
 step_stops Accepted front rest bytes at e h = subst (λ t. Stops Accepted t (length front + at)) (sym e) (step Accepted front rest at h)
 
@@ -190,6 +194,7 @@ one_if : (b : Bool) → from_bool b ≡ (if b then 1 else 0)
 one_if true = refl
 one_if false = refl
 
+-- what the code computes is the least year of the century
 pub least_is : (century : ℕ) → from_bool (century == 0) ≡ least_in_century century
 least_is century = one_if (century == 0)
 
@@ -200,6 +205,7 @@ least_year century year h = grind (arith, nat_tests)
 year_least : (century year : ℕ) → 1 ≤ 100 * century + year → least_in_century century ≤ year
 year_least century year h = grind (arith, nat_tests)
 
+-- what stops the first two digits stops the date
 pub century_stops : (bytes : List ℕ) (at : ℕ) → NotShown two_digits 0 99 bytes at → Stops IsDateText bytes at
 century_stops bytes at h = part_stops IsDateText two_digits 0 99 bytes at
     (λ t a. (a.0.year / 100, omega arith, omega (arith, a.0.valid.year_to), two_digits (a.0.year % 100) ++ dashed a.0.month ++ dashed a.0.day, a.1))
@@ -223,6 +229,7 @@ same_year m n xs ys e =
     let b = same_two (m % 100) (n % 100) xs ys a.1 in
     (omega (arith, a.0, b.0), b.1)
 
+-- what stops the last two digits of the year stops what follows the century
 pub year_stops : (century : ℕ) (bytes : List ℕ) (at : ℕ) → century ≤ 99 → NotShown two_digits (least_in_century century) 99 bytes at → Stops (After (two_digits century)) bytes at
 year_stops century bytes at small h = part_stops (After (two_digits century)) two_digits (least_in_century century) 99 bytes at split join h
   where
@@ -238,6 +245,7 @@ year_stops century bytes at small h = part_stops (After (two_digits century)) tw
 date_in : (year month day : ℕ) → (valid : IsDay year month day) → IsDateText (year_text year ++ dashed month ++ dashed day)
 date_in year month day valid = let date : Date = record { year = year; month = month; day = day; valid = valid } in (date, refl)
 
+-- what stops the month stops what follows the year
 pub month_stops : (year : ℕ) (bytes : List ℕ) (at : ℕ) → 1 ≤ year → year ≤ 9999 → NotShown dashed 1 12 bytes at → Stops (After (year_text year)) bytes at
 month_stops year bytes at from to h = part_stops (After (year_text year)) dashed 1 12 bytes at split join h
   where
@@ -249,6 +257,7 @@ month_stops year bytes at from to h = part_stops (After (year_text year)) dashed
     join : (n : ℕ) → 1 ≤ n → n ≤ 12 → (rest : List ℕ) × After (year_text year) (dashed n ++ rest)
     join n l m = (dashed 1, date_in year n 1 (first_of_month year n from to l m))
 
+-- what stops the day stops what follows the month
 pub day_stops : (year month : ℕ) (bytes : List ℕ) (at : ℕ) → 1 ≤ year → year ≤ 9999 → 1 ≤ month → month ≤ 12 → NotShown dashed 1 (days_of year month) bytes at → Stops (After (year_text year ++ dashed month)) bytes at
 day_stops year month bytes at yf yt mf mt h = part_stops (After (year_text year ++ dashed month)) dashed 1 (days_of year month) bytes at split join h
   where

@@ -3,7 +3,7 @@ use Rattle.std.proofs.Common.{◌≡◌, ℕ, List, [], ◌++◌, length, take, 
 use Rattle.std.proofs.lemmas.List.{append_assoc, append-nil}
 use Rattle.std.proofs.Math.Seq.{take-append_seam}
 use Rattle.std.specs.Prelude.{Result, Ok, Err, OnErr}
-use Rattle.mast_terms.specs.Printed.{Grows}
+use Rattle.mast_terms.specs.inside.Growth.{Grows}
 
 -- nothing was written
 pub grows_same : (old new : List ℕ) → new ≡ old → Grows old new
@@ -25,6 +25,7 @@ grows_by old new text e = record { more = text; is = e }
 pub grows_then : (old mid new : List ℕ) → Grows old mid → Grows mid new → Grows old new
 grows_then old mid new g h = record { more = g.more ++ h.more; is = h.is ∙ ap (λ l. l ++ h.more) g.is ∙ append_assoc old g.more h.more }
 
+-- what was written first and the text that was written then
 pub grows_more : (old mid new text : List ℕ) → Grows old mid → new ≡ mid ++ text → Grows old new
 grows_more old mid new text g e = grows_then old mid new g (grows_by mid new text e)
 

@@ -30,7 +30,8 @@ module _ {A : Type 0} where
       let both : u ∷ us ≡ v ∷ vs = cc in (both, r.1)
 
 -- what is fed in one write of a length that all have is told, where the write tells it
-pub told_word : {A : Type 0} (write : A → List ℕ) (a b : A) → length (write a) ≡ length (write b) → (write a ≡ write b → a ≡ b) → IsTold (λ x. write x ∷ []) a b
+pub told_word : {A : Type 0} (write : A → List ℕ) (a b : A) → length (write a) ≡ length (write b) → (write a ≡ write b → a ≡ b)
+    → IsTold (λ x. write x ∷ []) a b
 told_word write a b long same more others e =
     let r = fronts (write a) (write b) more others long (ap (λ w. w ++ more) (sym (append-nil (write a))) ∙ e ∙ ap (λ w. w ++ others) (append-nil (write b))) in
     (same r.0, r.1)
@@ -53,22 +54,26 @@ told_then F G a c b d f g more others e =
     let s = g more others r.1 in
     (r.0, s.0, s.1)
 
--- a byte, numbers of 16, 32 and 64 bits, and integers of 64 bits
+-- a byte
 pub u8_tells : TellsApart FitsAlways fed.u8
 u8_tells m n p q = told_word (λ x. x ∷ []) m n refl (λ s. cc)
 
+-- a number of 16 bits
 pub u16_tells : TellsApart (λ n. n < 2 ^ 16) fed.u16
 unfolding le_bytes
 u16_tells m n p q = told_word (le_bytes 2) m n refl (λ s. sym (from_le_bytes-to_le_bytes_2 m p) ∙ ap (from_le_bytes w16) s ∙ from_le_bytes-to_le_bytes_2 n q)
 
+-- a number of 32 bits
 pub u32_tells : TellsApart (λ n. n < 2 ^ 32) fed.u32
 unfolding le_bytes
 u32_tells m n p q = told_word (le_bytes 4) m n refl (λ s. sym (from_le_bytes-to_le_bytes_4 m p) ∙ ap (from_le_bytes w32) s ∙ from_le_bytes-to_le_bytes_4 n q)
 
+-- a number of 64 bits
 pub u64_tells : TellsApart (λ n. n < 2 ^ 64) fed.u64
 unfolding le_bytes
 u64_tells m n p q = told_word (le_bytes 8) m n refl (λ s. sym (from_le_bytes-to_le_bytes_8 m p) ∙ ap (from_le_bytes w64) s ∙ from_le_bytes-to_le_bytes_8 n q)
 
+-- an integer of 64 bits
 pub i64_tells : TellsApart (FitsSigned w64) fed.i64
 i64_tells y z p q more others e =
     let r = u64_tells (of_z w64 y) (of_z w64 z) (Fits-of_z p).fits (Fits-of_z q).fits more others e in
@@ -79,8 +84,14 @@ pub told_tag : (m n : ℕ) → m < 2 ^ 64 → n < 2 ^ 64 → (us vs : HashWrites
     → fed_bytes (fed.isize (pos m) ++ us) ++ more ≡ fed_bytes (fed.isize (pos n) ++ vs) ++ others → (m ≡ n) × (fed_bytes us ++ more ≡ fed_bytes vs ++ others)
 told_tag m n p q us vs = told_first fed.u64 m n (u64_tells m n p q) us vs
 
+-- different variants are told
+pub other_tag : (m n : ℕ) → m < 2 ^ 64 → n < 2 ^ 64 → (m ≡ n → ⊥) → (us vs : HashWrites) (more others : List ℕ)
+    → fed_bytes (fed.isize (pos m) ++ us) ++ more ≡ fed_bytes (fed.isize (pos n) ++ vs) ++ others → ⊥
+other_tag m n p q apart us vs more others e = apart (told_tag m n p q us vs more others e).0
+
 -- variants that hold nothing, where each has a number of its own
-pub variants_tell : {A : Type 0} (place : A → ℕ) (input : A → HashWrites) → ((a : A) → input a ≡ fed.isize (pos (place a))) → ((a : A) → place a < 2 ^ 64) → ((a b : A) → place a ≡ place b → a ≡ b) → TellsApart FitsAlways input
+pub variants_tell : {A : Type 0} (place : A → ℕ) (input : A → HashWrites) → ((a : A) → input a ≡ fed.isize (pos (place a)))
+    → ((a : A) → place a < 2 ^ 64) → ((a b : A) → place a ≡ place b → a ≡ b) → TellsApart FitsAlways input
 variants_tell place input is small same a b p q more others e =
     let r = u64_tells (place a) (place b) (small a) (small b) more others (ap (λ w. fed_bytes w ++ more) (sym (is a)) ∙ e ∙ ap (λ w. fed_bytes w ++ others) (is b)) in
     (same a b r.0, r.1)

@@ -6,7 +6,8 @@ use Rattle.std.proofs.lemmas.List.{append-nil}
 use Rattle.std.proofs.lemmas.Bool.{and_parts, and_cases, and_left, and_right, cases_Bool, ne_eqb}
 use Rattle.std.proofs.lemmas.Bool.Decides.{nat_tests}
 use Rattle.mast_terms.specs.Cells.{Begins, IsLongestFront}
-use Rattle.mast_terms.specs.IntegerCell.{is_digit, are_digits, number_after, magnitude, as_positive, as_negative, integer_of, IsInteger, LongestMagnitude, NoSign, read_digits, read_all_digits}
+use Rattle.mast_terms.specs.IntegerCell.{is_digit, are_digits, number_after, magnitude, as_positive, as_negative, integer_of, IsInteger}
+use Rattle.mast_terms.specs.inside.Digits.{LongestMagnitude, NoSign, read_digits, read_all_digits}
 
 grows : (n : ℕ) (bs : List ℕ) → n ≤ number_after n bs
 grows n [] = omega arith
@@ -94,6 +95,7 @@ mag_none most k zero ds more r h = absurd (omega arith)
 mag_none most k (suc n) [] more r h = absurd (cc)
 mag_none most k (suc n) (b ∷ bs) more r h = sym (all_is most (b ∷ (take n bs ++ more))) ∙ ap result_ok (stop_at most 0 0 k (suc n) (b ∷ bs) more r (omega arith))
 
+-- where reading stops, the longest front that begins a number ends
 pub mag_longest : (most k : ℕ) (ds : List ℕ) → read_all_digits most ds ≡ Err k → LongestMagnitude most ds k
 mag_longest most k [] h = let e : k ≡ 0 = cc in record { inside = omega arith; begins = (48 ∷ [], subst (λ (j : ℕ). IsSome (magnitude most (take j [] ++ 48 ∷ []))) (sym e) (zero_begins most)); longest = λ n more lt le. absurd (omega arith) }
 mag_longest most k (b ∷ bs) h = record {
@@ -143,9 +145,11 @@ plus_longest ds at h = record {
   far zero le b = omega arith
   far (suc n) le b = not_above (suc n) (at + 1) (λ lt. none_is (magnitude (2 ^ 63 - 1) (take n ds ++ b.0)) (h.longest n b.0 (omega arith) (omega arith)) b.1)
 
+-- without a sign, an integer is the number of its digits
 pub plain_int : (b : ℕ) (bs : List ℕ) → NoSign (b ∷ bs) → integer_of (b ∷ bs) ≡ as_positive (magnitude (2 ^ 63 - 1) (b ∷ bs))
 plain_int b bs h = rw (ne_eqb b 45 h.0, ne_eqb b 43 h.1) refl
 
+-- without a sign
 pub plain_longest : (ds : List ℕ) (at : ℕ) → NoSign ds → LongestMagnitude (2 ^ 63 - 1) ds at → IsLongestFront IsInteger ds at
 plain_longest ds at s h = record { within = h.inside; begins = near at ds s h.begins; longest = λ n le b. far n ds s le (h.longest n) b } where
   near : (j : ℕ) (xs : List ℕ) → NoSign xs → (more : List ℕ) × IsSome (magnitude (2 ^ 63 - 1) (take j xs ++ more)) → Begins IsInteger (take j xs)
@@ -168,6 +172,7 @@ pub mag_answer : (most : ℕ) (ds : List ℕ) (r : Result ℕ ℕ) → r ≡ rea
 mag_answer most ds (Ok x) e = tt
 mag_answer most ds (Err k) e = mag_longest most k ds (sym e)
 
+-- of no bytes the longest front is empty
 pub empty_front : (bytes : List ℕ) → length bytes < 1 → IsLongestFront IsInteger bytes 0
 empty_front [] h = record { within = omega arith; begins = (48 ∷ [], refl); longest = λ n le b. le }
 empty_front (b ∷ bs) h = absurd (omega arith)

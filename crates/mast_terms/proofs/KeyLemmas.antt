@@ -23,7 +23,7 @@ use Rattle.mast_terms.specs.contracts.term.ObjectHash.TheImpl as object_hash
 use Rattle.mast_terms.specs.contracts.term.TermHash.TheImpl as term_hash
 use Rattle.mast_terms.specs.contracts.value.KindHash.TheImpl as kind_hash
 use Rattle.mast_terms.specs.contracts.value.ValueHash.TheImpl as value_hash
-use Rattle.mast_terms.proofs.HashLemmas.{told_first, told_then, told_tag, variants_tell, u8_tells, u16_tells, u32_tells, i64_tells, str_tells, list_tells}
+use Rattle.mast_terms.proofs.HashLemmas.{told_first, told_then, told_tag, other_tag, variants_tell, u8_tells, u16_tells, u32_tells, i64_tells, str_tells, list_tells}
 use Rattle.mast_terms.proofs.SameLemmas.{date_is}
 
 -- names
@@ -31,11 +31,6 @@ pub name_tells : TellsApart FitsName name_hash.ghosts.hash_input
 name_tells a b p q more others e =
     let r = u32_tells a.0 b.0 p q more others e in
     (λ i. record { 0 = r.0 i }, r.1)
-
--- numbers of variants that differ are fed differently
-other_tag : (m n : ℕ) → m < 2 ^ 64 → n < 2 ^ 64 → (m ≡ n → ⊥) → (us vs : HashWrites) (more others : List ℕ)
-    → fed_bytes (fed.isize (pos m) ++ us) ++ more ≡ fed_bytes (fed.isize (pos n) ++ vs) ++ others → ⊥
-other_tag m n p q apart us vs more others e = apart (told_tag m n p q us vs more others e).0
 
 -- kinds of names
 name_kind_is : (a : NameKind) → name_kind_hash.ghosts.hash_input a ≡ fed.isize (pos (name_kind_place a))

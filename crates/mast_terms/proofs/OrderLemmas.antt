@@ -78,9 +78,11 @@ module _ {A : Type 0} (same : A → A → Bool) where
 pub name_equality_test : TestsEquality name_eq.ghosts.eq
 name_equality_test = equality name_eq.ghosts.eq name_equality.laws-law name_same
 
+-- names compare by their order
 pub name_compares : ComparesBy name_order name_ord.ghosts.cmp
 name_compares a b = refl
 
+-- the order of names is total
 pub name_orders : OrdersAll name_order
 name_orders = orders name_eq.ghosts.eq name_equality.laws-law name_same name_ord.ghosts.cmp name_order name_laws.total-law name_laws.matches_eq-law name_compares
 
@@ -88,6 +90,7 @@ name_orders = orders name_eq.ghosts.eq name_equality.laws-law name_same name_ord
 pub name_kind_equality_test : TestsEquality name_kind_eq.ghosts.eq
 name_kind_equality_test = equality name_kind_eq.ghosts.eq name_kind_equality.laws-law name_kind_same
 
+-- kinds of names compare by their order
 pub name_kind_compares : ComparesBy name_kind_order name_kind_ord.ghosts.cmp
 name_kind_compares nk.Class nk.Class = refl
 name_kind_compares nk.Class nk.Role = refl
@@ -99,6 +102,7 @@ name_kind_compares nk.Attr nk.Class = refl
 name_kind_compares nk.Attr nk.Role = refl
 name_kind_compares nk.Attr nk.Attr = refl
 
+-- the order of kinds of names is total
 pub name_kind_orders : OrdersAll name_kind_order
 name_kind_orders = orders name_kind_eq.ghosts.eq name_kind_equality.laws-law name_kind_same name_kind_ord.ghosts.cmp name_kind_order name_kind_laws.total-law name_kind_laws.matches_eq-law name_kind_compares
 
@@ -106,6 +110,7 @@ name_kind_orders = orders name_kind_eq.ghosts.eq name_kind_equality.laws-law nam
 pub kind_equality_test : TestsEquality kind_eq.ghosts.eq
 kind_equality_test = equality kind_eq.ghosts.eq kind_equality.laws-law kind_same
 
+-- kinds of values compare by their order
 pub kind_compares : ComparesBy kind_order kind_ord.ghosts.cmp
 kind_compares k.Text k.Text = refl
 kind_compares k.Text k.Integer = refl
@@ -117,6 +122,7 @@ kind_compares k.Date k.Text = refl
 kind_compares k.Date k.Integer = refl
 kind_compares k.Date k.Date = refl
 
+-- the order of kinds of values is total
 pub kind_orders : OrdersAll kind_order
 kind_orders = orders kind_eq.ghosts.eq kind_equality.laws-law kind_same kind_ord.ghosts.cmp kind_order kind_laws.total-law kind_laws.matches_eq-law kind_compares
 
@@ -124,6 +130,7 @@ kind_orders = orders kind_eq.ghosts.eq kind_equality.laws-law kind_same kind_ord
 pub text_equality_test : TestsEquality (pointwise nat_eq)
 text_equality_test = equality (pointwise nat_eq) nat_list_eq_equiv (λ a b h. same_text a b (sym h))
 
+-- the order of texts is total
 pub text_orders : OrdersAll (slice_cmp nat_cmp)
 text_orders = orders (pointwise nat_eq) nat_list_eq_equiv (λ a b h. same_text a b (sym h)) (slice_cmp nat_cmp) (slice_cmp nat_cmp) nat_list_cmp_total texts_ties (λ a b. refl)
 
@@ -131,9 +138,11 @@ text_orders = orders (pointwise nat_eq) nat_list_eq_equiv (λ a b h. same_text a
 pub date_equality_test : TestsEquality date_eq.ghosts.eq
 date_equality_test = equality date_eq.ghosts.eq date_equality.laws-law date_same
 
+-- dates compare by their order
 pub date_compares : ComparesBy date_order date_ord.ghosts.cmp
 date_compares a b = refl
 
+-- the order of dates is total
 pub date_orders : OrdersAll date_order
 date_orders = orders date_eq.ghosts.eq date_equality.laws-law date_same date_ord.ghosts.cmp date_order date_laws.total-law date_laws.matches_eq-law date_compares
 
@@ -141,6 +150,7 @@ date_orders = orders date_eq.ghosts.eq date_equality.laws-law date_same date_ord
 pub value_equality_test : TestsEquality value_eq.ghosts.eq
 value_equality_test = equality value_eq.ghosts.eq value_equality.laws-law value_same
 
+-- values compare by their order
 pub value_compares : ComparesBy value_order value_ord.ghosts.cmp
 value_compares (v.Int a) (v.Int b) = refl
 value_compares (v.Int a) (v.Text b) = refl
@@ -152,6 +162,7 @@ value_compares (v.Date a) (v.Int b) = refl
 value_compares (v.Date a) (v.Text b) = refl
 value_compares (v.Date a) (v.Date b) = refl
 
+-- the order of values is total
 pub value_orders : OrdersAll value_order
 value_orders = orders value_eq.ghosts.eq value_equality.laws-law value_same value_ord.ghosts.cmp value_order value_laws.total-law value_laws.matches_eq-law value_compares
 
@@ -159,9 +170,11 @@ value_orders = orders value_eq.ghosts.eq value_equality.laws-law value_same valu
 pub args_equality_test : TestsEquality (pointwise value_eq.ghosts.eq)
 args_equality_test = list_equality_test value_eq.ghosts.eq value_equality.laws-law value_equality_test
 
+-- arguments compare by their order
 pub args_compares : ComparesBy (slice_cmp value_order) (slice_cmp value_ord.ghosts.cmp)
 args_compares a b = λ i. slice_cmp (λ x y. value_compares x y i) a b
 
+-- the order of arguments is total
 pub args_orders : OrdersAll (slice_cmp value_order)
 args_orders = orders (pointwise value_eq.ghosts.eq) (lists_equiv value_equality.laws-law) (list_same value_eq.ghosts.eq value_same) (slice_cmp value_ord.ghosts.cmp) (slice_cmp value_order) (lists_total value_laws.total-law) (lists_ties value_ord.ghosts.cmp value_laws.matches_eq-law) args_compares
 
@@ -169,9 +182,11 @@ args_orders = orders (pointwise value_eq.ghosts.eq) (lists_equiv value_equality.
 pub object_equality_test : TestsEquality object_eq.ghosts.eq
 object_equality_test = equality object_eq.ghosts.eq object_equality.laws-law object_same
 
+-- objects compare by their order
 pub object_compares : ComparesBy object_order object_ord.ghosts.cmp
 object_compares a b = λ i. ordering_then (slice_cmp nat_cmp a.symbol b.symbol) (slice_cmp (λ x y. value_compares x y i) a.args b.args)
 
+-- the order of objects is total
 pub object_orders : OrdersAll object_order
 object_orders = orders object_eq.ghosts.eq object_equality.laws-law object_same object_ord.ghosts.cmp object_order object_laws.total-law object_laws.matches_eq-law object_compares
 
@@ -179,12 +194,14 @@ object_orders = orders object_eq.ghosts.eq object_equality.laws-law object_same 
 pub term_equality_test : TestsEquality term_eq.ghosts.eq
 term_equality_test = equality term_eq.ghosts.eq term_equality.laws-law term_same
 
+-- terms compare by their order
 pub term_compares : ComparesBy term_order term_ord.ghosts.cmp
 term_compares (t.Value a) (t.Value b) = value_compares a b
 term_compares (t.Value a) (t.Object b) = refl
 term_compares (t.Object a) (t.Value b) = refl
 term_compares (t.Object a) (t.Object b) = object_compares a b
 
+-- the order of terms is total
 pub term_orders : OrdersAll term_order
 term_orders = orders term_eq.ghosts.eq term_equality.laws-law term_same term_ord.ghosts.cmp term_order term_laws.total-law term_laws.matches_eq-law term_compares
 
@@ -192,8 +209,10 @@ term_orders = orders term_eq.ghosts.eq term_equality.laws-law term_same term_ord
 pub tuple_equality_test : TestsEquality (pointwise term_eq.ghosts.eq)
 tuple_equality_test = list_equality_test term_eq.ghosts.eq term_equality.laws-law term_equality_test
 
+-- tuples compare by their order
 pub tuple_compares : ComparesBy tuple_order (slice_cmp term_ord.ghosts.cmp)
 tuple_compares a b = λ i. slice_cmp (λ x y. term_compares x y i) a b
 
+-- the order of tuples is total
 pub tuple_orders : OrdersAll tuple_order
 tuple_orders = orders (pointwise term_eq.ghosts.eq) (lists_equiv term_equality.laws-law) (list_same term_eq.ghosts.eq term_same) (slice_cmp term_ord.ghosts.cmp) tuple_order (lists_total term_laws.total-law) (lists_ties term_ord.ghosts.cmp term_laws.matches_eq-law) tuple_compares

@@ -236,6 +236,7 @@ value_object (v.Int (negsuc n)) o h = negative_object n o h
 value_object (v.Text t) o h = quoted_object t o h
 value_object (v.Date d) o h = date_object d o h
 
+-- the printed form of a term tells the term
 pub term_text_injective : (a b : Term) → term_text a ≡ term_text b → a ≡ b
 term_text_injective (t.Value v) (t.Value w) h =
     let f = value_end v w [] [] tt tt (append-nil (value_text v) ∙ h ∙ sym (append-nil (value_text w))) in ap (λ (k : Value). t.Value k) f.0

@@ -35,6 +35,7 @@ unfolding shown
 shown_digits [] h = refl
 shown_digits (d ∷ ds) h = and_from _ _ (grind (arith, nat_tests)) (shown_digits ds h.1)
 
+-- a number is printed in digits
 pub number_digits : (n : ℕ) → are_digits (number_text n) ≡ true
 unfolding number_text shown
 number_digits zero = refl
@@ -44,6 +45,7 @@ some_digits : (ds : List ℕ) → are_digits ds ≡ true → (ds ≡ [] → ⊥)
 some_digits [] h some = absurd (some refl)
 some_digits (b ∷ bs) h some = (b, bs, refl, (and_parts (is_digit b) (are_digits bs) h).0)
 
+-- a number is printed in one digit or more
 pub number_some : (n : ℕ) → number_text n ≡ [] → ⊥
 unfolding number_text shown
 number_some zero h = cc

@@ -27,6 +27,7 @@ name_kind_place nk.Class = 0
 name_kind_place nk.Role = 1
 name_kind_place nk.Attr = 2
 
+-- kinds of names by their places
 abbrev pub name_kind_order : NameKind → NameKind → Ordering
 name_kind_order a b = nat_cmp (name_kind_place a) (name_kind_place b)
 
@@ -36,6 +37,7 @@ kind_place k.Text = 0
 kind_place k.Integer = 1
 kind_place k.Date = 2
 
+-- kinds of values by their places
 abbrev pub kind_order : Kind → Kind → Ordering
 kind_order a b = nat_cmp (kind_place a) (kind_place b)
 
@@ -43,6 +45,7 @@ kind_order a b = nat_cmp (kind_place a) (kind_place b)
 abbrev pub date_order : Date → Date → Ordering
 date_order a b = ordering_then (nat_cmp a.year b.year) (ordering_then (nat_cmp a.month b.month) (nat_cmp a.day b.day))
 
+-- an integer before a text before a date; integers by size, texts by bytes, dates in their order
 abbrev pub value_order : Value → Value → Ordering
 value_order (v.Int a) (v.Int b) = int_cmp a b
 value_order (v.Int a) (v.Text b) = Less
@@ -54,9 +57,11 @@ value_order (v.Date a) (v.Int b) = Greater
 value_order (v.Date a) (v.Text b) = Greater
 value_order (v.Date a) (v.Date b) = date_order a b
 
+-- by symbol, and then by the first argument that differs
 abbrev pub object_order : Object → Object → Ordering
 object_order a b = ordering_then (slice_cmp nat_cmp a.symbol b.symbol) (slice_cmp value_order a.args b.args)
 
+-- a value before an object
 abbrev pub term_order : Term → Term → Ordering
 term_order (t.Value a) (t.Value b) = value_order a b
 term_order (t.Value a) (t.Object b) = Less

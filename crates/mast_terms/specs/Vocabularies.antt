@@ -16,6 +16,11 @@ pub record Lists : Type 0 where
   pub attributes : List (List ℕ)
   pub constants : List Value
 
+-- the vocabulary of these lists
+abbrev pub lists_of : List (List ℕ) → List (List ℕ) → List (List ℕ) → List Value → Lists
+lists_of classes roles attributes constants =
+    record { classes = classes; roles = roles; attributes = attributes; constants = constants }
+
 -- how many names of a kind, and how many constants, there may be
 abbrev pub capacity : ℕ
 capacity = 65535
@@ -26,10 +31,11 @@ iris lists kind.Class = lists.classes
 iris lists kind.Role = lists.roles
 iris lists kind.Attr = lists.attributes
 
--- whether an IRI is there, and its number
+-- whether an IRI is there
 abbrev pub stands : List ℕ → List (List ℕ) → Bool
 stands iri known = list_any (bytes_eq iri) known
 
+-- the number of an IRI that is there
 abbrev pub place : List ℕ → List (List ℕ) → Option ℕ
 place iri known = position (bytes_eq iri) known
 
@@ -37,10 +43,11 @@ place iri known = position (bytes_eq iri) known
 abbrev pub joined : List ℕ → List (List ℕ) → List (List ℕ)
 joined iri known = if stands iri known then known else known ++ iri ∷ []
 
+-- the vocabulary in which an IRI is a name of a kind
 abbrev pub with_iri : Lists → NameKind → List ℕ → Lists
-with_iri lists kind.Class iri = record { classes = joined iri lists.classes; roles = lists.roles; attributes = lists.attributes; constants = lists.constants }
-with_iri lists kind.Role iri = record { classes = lists.classes; roles = joined iri lists.roles; attributes = lists.attributes; constants = lists.constants }
-with_iri lists kind.Attr iri = record { classes = lists.classes; roles = lists.roles; attributes = joined iri lists.attributes; constants = lists.constants }
+with_iri lists kind.Class iri = lists_of (joined iri lists.classes) lists.roles lists.attributes lists.constants
+with_iri lists kind.Role iri = lists_of lists.classes (joined iri lists.roles) lists.attributes lists.constants
+with_iri lists kind.Attr iri = lists_of lists.classes lists.roles (joined iri lists.attributes) lists.constants
 
 -- an IRI is to be a role and stands as an attribute, or the other way
 abbrev pub stands_otherwise : Lists → NameKind → List ℕ → Bool
@@ -52,35 +59,44 @@ stands_otherwise lists kind.Attr iri = stands iri lists.roles
 abbrev pub is_full : List ℕ → List (List ℕ) → Bool
 is_full iri known = not (stands iri known) && nat_le capacity (length known)
 
+-- the refusal that an IRI meets where no other kind stands in its way
 abbrev pub refusal_of_new : List ℕ → List (List ℕ) → Option AddRefusal
 refusal_of_new iri known = if is_full iri known then Some refusal.Full else None
 
 -- why an IRI is not added as a name of a kind
 abbrev pub refusal_of : Lists → NameKind → List ℕ → Option AddRefusal
-refusal_of lists kind iri = if stands_otherwise lists kind iri then Some refusal.TwoKinds else refusal_of_new iri (iris lists kind)
+refusal_of lists kind iri =
+    if stands_otherwise lists kind iri then Some refusal.TwoKinds else refusal_of_new iri (iris lists kind)
 
--- the same of constants
+-- whether two constants are one
 abbrev pub same_value : Value → Value → Bool
 same_value = value_eq.ghosts.eq
 
+-- whether a constant is there
 abbrev pub value_stands : Value → List Value → Bool
 value_stands value constants = list_any (same_value value) constants
 
+-- the number of a constant that is there
 abbrev pub value_place : Value → List Value → Option ℕ
 value_place value constants = position (same_value value) constants
 
+-- a constant that is there keeps its number, and a new one has the next
 abbrev pub joined_value : Value → List Value → List Value
 joined_value value constants = if value_stands value constants then constants else constants ++ value ∷ []
 
+-- the vocabulary in which a value is a constant
 abbrev pub with_value : Lists → Value → Lists
-with_value lists value = record { classes = lists.classes; roles = lists.roles; attributes = lists.attributes; constants = joined_value value lists.constants }
+with_value lists value = lists_of lists.classes lists.roles lists.attributes (joined_value value lists.constants)
 
+-- why a value is not added as a constant
 abbrev pub value_refusal : Value → List Value → Option AddRefusal
-value_refusal value constants = if not (value_stands value constants) && nat_le capacity (length constants) then Some refusal.Full else None
+value_refusal value constants =
+    if not (value_stands value constants) && nat_le capacity (length constants) then Some refusal.Full else None
 
 -- each element once: two places of one element are one
 abbrev pub EachOnce : {A : Type 0} → List A → Type 0
-EachOnce {A} elements = (i j : ℕ) (element : A) → slice_get elements i ≡ Some element → slice_get elements j ≡ Some element → i ≡ j
+EachOnce {A} elements =
+    (i j : ℕ) (element : A) → slice_get elements i ≡ Some element → slice_get elements j ≡ Some element → i ≡ j
 
 -- no IRI is a role and an attribute
 abbrev pub AreApart : List (List ℕ) → List (List ℕ) → Type 0

@@ -2,8 +2,9 @@
 ghost use Rattle.std.specs.Prelude.{◌≡◌, ◌+◌, ◌-◌, ◌*◌, ◌≤◌, ◌↔◌, ◌∷◌, ◌++◌, drop, length, IsTrue, IfOk, IfErr};
 ghost use Rattle.mast_terms.specs.Calendar.{IsDay, days_of};
 ghost use Rattle.mast_terms.specs.Cells.{IsLongestFront};
-ghost use Rattle.mast_terms.specs.DateCell.{IsDateText, After, Stops, NotShown, BeginsNumber, EndsNumber, year_text, dashed, least_in_century};
+ghost use Rattle.mast_terms.specs.DateCell.{IsDateText};
 ghost use Rattle.mast_terms.specs.Printed.{two_digits, date_text};
+ghost use Rattle.mast_terms.specs.inside.DateParts.{After, Stops, NotShown, BeginsNumber, EndsNumber, year_text, dashed};
 
 use crate::Date;
 use crate::date::days_in_month;

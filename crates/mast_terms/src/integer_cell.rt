@@ -1,8 +1,10 @@
 //! Cells of integer columns.
 ghost use Rattle.std.specs.Prelude.{◌≡◌, ◌<◌, ◌≤◌, ◌^◌, ◌-◌, ◌∷◌, IfErr, IfOk};
 ghost use Rattle.std.specs.Result.{result_ok};
+ghost use Rattle.mast_terms.specs.Bytes.{hyphen, plus};
 ghost use Rattle.mast_terms.specs.Cells.{IsLongestFront};
-ghost use Rattle.mast_terms.specs.IntegerCell.{integer_of, IsInteger, magnitude, as_positive, as_negative, NoSign, read_all_digits, LongestMagnitude};
+ghost use Rattle.mast_terms.specs.IntegerCell.{integer_of, IsInteger, magnitude, as_positive, as_negative};
+ghost use Rattle.mast_terms.specs.inside.Digits.{NoSign, read_all_digits, LongestMagnitude};
 
 /// The cell is no integer. `at` is the length of its longest front with which some accepted cell begins.
 #[derive(Clone, Copy, Debug, PartialEq, Eq)]
@@ -31,7 +33,7 @@ pub fn read_int(bytes: &[u8]) -> Result<i64, BadInt>
 // What follows a plus.
 fn read_positive(digits: &[u8]) -> Result<i64, BadInt>
     ensures accepts { result_ok result ≡ as_positive (magnitude (2 ^ 63 - 1) digits.now) }
-    ensures at { IfErr result (λ bad. IsLongestFront IsInteger (43 ∷ digits.now) bad.at) }
+    ensures at { IfErr result (λ bad. IsLongestFront IsInteger (plus ∷ digits.now) bad.at) }
 {
     match read_magnitude(digits, (1 << 63) - 1) {
         Ok(size) => Ok(size as i64),
@@ -54,7 +56,7 @@ fn read_unsigned(digits: &[u8]) -> Result<i64, BadInt>
 // What follows a minus.
 fn read_negative(digits: &[u8]) -> Result<i64, BadInt>
     ensures accepts { result_ok result ≡ as_negative (magnitude (2 ^ 63) digits.now) }
-    ensures at { IfErr result (λ bad. IsLongestFront IsInteger (45 ∷ digits.now) bad.at) }
+    ensures at { IfErr result (λ bad. IsLongestFront IsInteger (hyphen ∷ digits.now) bad.at) }
 {
     match read_magnitude(digits, 1 << 63) {
         Ok(0) => Ok(0),

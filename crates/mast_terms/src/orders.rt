@@ -1,14 +1,17 @@
-//! The laws of equality and order.
+//! The laws of equality, order and hashing.
 ghost use Rattle.std.specs.Cmp.Lexicographic.{slice_cmp};
 ghost use Rattle.std.specs.Ordering.{nat_cmp};
 ghost use Rattle.std.specs.Prelude.{IsUtf8};
-ghost use Rattle.mast_terms.specs.Hashes.{FitsAlways, FitsName, FitsValue, FitsObject, FitsTerm, FitsList, TellsApart, TellsLists};
-ghost use Rattle.mast_terms.specs.Orders.{name_order, name_kind_order, kind_order, date_order, value_order, object_order, term_order, tuple_order, TestsEquality, ComparesBy, OrdersAll};
+ghost use Rattle.mast_terms.specs.Hashes.{FitsAlways, FitsName, FitsValue, FitsObject, FitsTerm, FitsList};
+ghost use Rattle.mast_terms.specs.Hashes.{TellsApart, TellsLists};
+ghost use Rattle.mast_terms.specs.Orders.{name_order, name_kind_order, kind_order, date_order, value_order};
+ghost use Rattle.mast_terms.specs.Orders.{object_order, term_order, tuple_order, TestsEquality, ComparesBy, OrdersAll};
 
 use crate::{Args, Date, Kind, List, Name, NameKind, Object, Term, Text, Value};
 use std::hash::Hash;
 
-/// Laws of names and of both kinds of kinds: `==` holds exactly of equal ones, and `cmp` is their order, in which only equal ones tie.
+/// Laws of names and of both kinds of kinds: `==` holds exactly of equal ones, `cmp` is their order, in which only equal
+/// ones tie, and what a hasher is fed tells them apart.
 pub fn names_are_ordered()
     ensures equality { TestsEquality ⟦<Name as PartialEq>⟧.eq }
     ensures compares { ComparesBy name_order ⟦<Name as Ord>⟧.cmp }
@@ -24,7 +27,8 @@ pub fn names_are_ordered()
     ensures kind_hash { TellsApart FitsAlways ⟦<Kind as Hash>⟧.hash_input }
 {}
 
-/// Laws of lists whose elements have the laws: `==` holds exactly of equal ones, and `cmp` goes by the first element that differs.
+/// Laws of lists whose elements have the laws: `==` holds exactly of equal ones, `cmp` goes by the first element that
+/// differs, and what a hasher is fed tells them apart.
 pub fn lists_are_ordered<T: Ord + Hash>()
     ensures equality { TestsEquality T.eq → TestsEquality ⟦<List<T> as PartialEq>⟧.eq }
     ensures compares { ComparesBy (slice_cmp T.cmp) ⟦<List<T> as Ord>⟧.cmp }
@@ -33,7 +37,8 @@ pub fn lists_are_ordered<T: Ord + Hash>()
 {}
 
 /// Laws of terms and tuples, and of all that they are made of: objects and their arguments, values, texts and dates.
-/// `==` holds exactly of equal ones, and `cmp` is their order, in which only equal ones tie.
+/// `==` holds exactly of equal ones, `cmp` is their order, in which only equal ones tie, and what a hasher is fed tells
+/// them apart.
 pub fn terms_are_ordered()
     ensures equality { TestsEquality ⟦<Term as PartialEq>⟧.eq }
     ensures compares { ComparesBy term_order ⟦<Term as Ord>⟧.cmp }

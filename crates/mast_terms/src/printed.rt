@@ -1,7 +1,9 @@
 //! The printed form of terms.
 ghost use Rattle.std.specs.Prelude.{◌≡◌, ◌++◌, ◌∷◌, [], ◌<◌, OnOk, OnErr};
 ghost use Rattle.std.specs.List.{flat_map};
-ghost use Rattle.mast_terms.specs.Printed.{int_text, two_digits, date_text, escaped, quoted, value_text, args_text, after_commas, object_text, term_text, Grows, IsInjective};
+ghost use Rattle.mast_terms.specs.Printed.{term_text, object_text, args_text, after_commas, value_text, IsInjective};
+ghost use Rattle.mast_terms.specs.Printed.{int_text, two_digits, date_text, escaped, quoted};
+ghost use Rattle.mast_terms.specs.inside.Growth.{Grows};
 
 use crate::{Date, NoMemory, Object, Term, Value};
 use itoa::Buffer;

@@ -1,4 +1,4 @@
-// Texts that stand in the value.
+//! Texts that stand in the value.
 ghost use Rattle.std.specs.Prelude.{◌≡◌, ◌≤◌, length};
 
 use std::marker::Model;

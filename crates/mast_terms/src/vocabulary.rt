@@ -2,7 +2,8 @@
 ghost use Rattle.std.specs.Prelude.{◌≡◌, ◌<◌, ◌≤◌, [], length, slice_get, Some, IfOk, IfSome, OnOk, OnErr};
 ghost use Rattle.std.specs.Option.{option_map};
 ghost use Rattle.mast_terms.specs.Refusals.{IsRefusedBy};
-ghost use Rattle.mast_terms.specs.Vocabularies.{capacity, iris, place, stands_otherwise, refusal_of, with_iri, value_place, value_refusal, with_value, IsVocabulary};
+ghost use Rattle.mast_terms.specs.Vocabularies.{capacity, lists_of, iris, place, stands_otherwise, refusal_of, with_iri, IsVocabulary};
+ghost use Rattle.mast_terms.specs.Vocabularies.{value_place, value_refusal, with_value};
 
 use crate::constants::Constants;
 use crate::iris::Iris;
@@ -22,19 +23,19 @@ pub struct Vocabulary {
 }
 
 impl Model for Vocabulary {
-    ghost use Rattle.mast_terms.specs.Vocabularies.{Lists, IsVocabulary};
+    ghost use Rattle.mast_terms.specs.Vocabularies.{Lists, lists_of, IsVocabulary};
 
     ghost Value = { Lists };
 
-    ghost view = { λ v. record { classes = v.classes; roles = v.roles; attributes = v.attributes; constants = v.constants } };
+    ghost view = { λ v. lists_of v.classes v.roles v.attributes v.constants };
 
-    ghost invariant = { λ v. IsVocabulary (record { classes = v.classes; roles = v.roles; attributes = v.attributes; constants = v.constants }) };
+    ghost invariant = { λ v. IsVocabulary (lists_of v.classes v.roles v.attributes v.constants) };
 }
 
 impl Vocabulary {
     /// The empty vocabulary, which takes no memory.
     pub fn new(alloc: Global) -> Vocabulary
-        ensures { result ≡ record { classes = []; roles = []; attributes = []; constants = [] } }
+        ensures { result ≡ lists_of [] [] [] [] }
     {
         Vocabulary {
             classes: Iris::new(alloc),
@@ -58,8 +59,8 @@ impl Vocabulary {
 
     /// The number of an IRI as a name of a kind. One that is there keeps its number, and a new one takes the next.
     ///
-    /// `TwoKinds` comes exactly where the IRI is to be a role and stands as an attribute, or the other way; else `Full` comes
-    /// exactly where it is new and 65,535 of the kind stand. A refused call, and one without memory, changes nothing.
+    /// `TwoKinds` comes exactly where the IRI is to be a role and stands as an attribute, or the other way; else `Full`
+    /// comes exactly where it is new and 65,535 of the kind stand. A refused call, and one without memory, changes nothing.
     pub fn add(
         &mut self,
         alloc: Global,
@@ -97,7 +98,8 @@ impl Vocabulary {
 
     /// The number of a constant. One that is there keeps its number, and a new one takes the next.
     ///
-    /// `Full` comes exactly where it is new and 65,535 constants stand. A refused call, and one without memory, changes nothing.
+    /// `Full` comes exactly where it is new and 65,535 constants stand. A refused call, and one without memory, changes
+    /// nothing.
     pub fn add_value(&mut self, alloc: Global, value: &Value) -> Result<u32, Stop<AddRefusal>>
         ensures refused { IsRefusedBy result (value_refusal value.now self.old.constants) }
         ensures added { OnOk result (self.new ≡ with_value self.old value.now) }

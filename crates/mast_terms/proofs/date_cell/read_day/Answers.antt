@@ -1,5 +1,5 @@
 use Rattle.std.proofs.Common.{◌≤◌, subst}
-use Rattle.mast_terms.specs.DateCell.{NotShown, dashed}
+use Rattle.mast_terms.specs.inside.DateParts.{NotShown, dashed}
 use Rattle.mast_terms.proofs.DateCellLemmas.{day_stops, end_day}
 use Rattle.mast_terms.proofs.date_cell.read_day.Goals as goal
 

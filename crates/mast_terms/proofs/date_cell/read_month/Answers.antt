@@ -1,4 +1,4 @@
-use Rattle.mast_terms.specs.DateCell.{After, dashed, year_text}
+use Rattle.mast_terms.specs.inside.DateParts.{After, dashed, year_text}
 use Rattle.mast_terms.proofs.DateCellLemmas.{month_stops, step_rest}
 use Rattle.mast_terms.proofs.date_cell.read_month.Goals as goal
 

@@ -1,5 +1,5 @@
 use Rattle.std.proofs.Common.{◌∙◌, ◌+◌, ◌*◌, ◌-◌, take, drop, length, subst, arith}
-use Rattle.mast_terms.specs.DateCell.{After, NotShown}
+use Rattle.mast_terms.specs.inside.DateParts.{After, NotShown}
 use Rattle.mast_terms.specs.Printed.{two_digits}
 use Rattle.mast_terms.proofs.DateCellLemmas.{least_is, year_stops, year_step, step_rest}
 use Rattle.mast_terms.proofs.date_cell.read_year.Goals as goal

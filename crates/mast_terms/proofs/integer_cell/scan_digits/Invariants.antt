@@ -1,5 +1,5 @@
 use Rattle.std.proofs.Common.{◌≡◌, ◌≤◌, drop}
-use Rattle.mast_terms.specs.IntegerCell.{read_digits, read_all_digits}
+use Rattle.mast_terms.specs.inside.Digits.{read_digits, read_all_digits}
 use Rattle.mast_terms.proofs.integer_cell.scan_digits.Given as goal
 
 -- what is left is read from here

@@ -1,5 +1,6 @@
 use Rattle.std.proofs.Common.{◌≡◌, ◌++◌, drop}
-use Rattle.mast_terms.specs.Printed.{after_commas, Grows}
+use Rattle.mast_terms.specs.Printed.{after_commas}
+use Rattle.mast_terms.specs.inside.Growth.{Grows}
 use Rattle.mast_terms.proofs.printed.push_after_commas.Given as goal
 
 abbrev pub invariant-loop-value : goal.invariant-loop-value

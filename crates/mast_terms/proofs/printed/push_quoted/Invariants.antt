@@ -1,6 +1,7 @@
 use Rattle.std.proofs.Common.{◌≡◌, ◌++◌, ◌∷◌, [], drop}
 use Rattle.std.specs.List.{flat_map}
-use Rattle.mast_terms.specs.Printed.{escaped, quoted, Grows}
+use Rattle.mast_terms.specs.Printed.{escaped, quoted}
+use Rattle.mast_terms.specs.inside.Growth.{Grows}
 use Rattle.mast_terms.proofs.printed.push_quoted.Given as goal
 
 -- what is written and what is left make the text in quotes
