@@ -11,5 +11,6 @@ abbrev pub TakesAll : {F T R : Type 0} → Shared F (Bor T × Unit {0}) R → F 
 TakesAll {F} {T} g f pieces = (p : Bor T) → Contains pieces p.now → g.pre f (p, tt)
 
 -- there are as many answers as pieces, and each is one that f may give of the piece at its place
-abbrev pub GivesAll : {F T U : Type 0} → Shared F (Bor T × Unit {0}) (Result U NoMemory) → F → List T → List U → Type 0
+abbrev pub GivesAll :
+    {F T U : Type 0} → Shared F (Bor T × Unit {0}) (Result U NoMemory) → F → List T → List U → Type 0
 GivesAll g f pieces answers = AllZip (λ piece answer. FnReturnsAt g f piece (Ok answer)) pieces answers

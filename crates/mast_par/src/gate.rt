@@ -1,4 +1,4 @@
-// Who is told of each piece.
+//! Who is told of each piece.
 
 /// Is told of each piece before its call, by its number, which counts from 0. It changes nothing of the answers.
 pub trait Gate {

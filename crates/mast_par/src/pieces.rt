@@ -1,4 +1,4 @@
-// A list of pieces that is cut in two until there are as many parts as workers.
+//! A list of pieces that is cut in two until there are as many parts as workers.
 ghost use Rattle.std.specs.Prelude.{ℕ, ◌+◌, ◌<◌, ◌≤◌, ◌^◌, IfOk, length};
 ghost use denote.Param.Send.{IsSend, IsSync};
 ghost use Rattle.mast_par.specs.Pieces.{GivesAll, TakesAll};
@@ -67,11 +67,17 @@ fn answers_from<
     let (low, high) = pieces.split_at(cut);
     let next = first + cut;
     let front = move || -> Result<Vec<U>, NoMemory>
-        requires { IsSync Rt.row × IsSync F.row × IsSync G.row × IsSync T.row × IsSend U.row × (first + length low.now < 2 ^ 64) × (few ≤ 16) × TakesAll F.Fn f.now low.now }
+        requires sends { IsSync Rt.row × IsSync F.row × IsSync G.row × IsSync T.row × IsSend U.row }
+        requires room { first + length low.now < 2 ^ 64 }
+        requires workers { few ≤ 16 }
+        requires takes { TakesAll F.Fn f.now low.now }
         ensures { IfOk result (λ answers. GivesAll F.Fn f.entry.now low.entry.now answers.items) }
     { answers_from(rt, alloc, first, low, few, f, gate) };
     let back = move || -> Result<Vec<U>, NoMemory>
-        requires { IsSync Rt.row × IsSync F.row × IsSync G.row × IsSync T.row × IsSend U.row × (next + length high.now < 2 ^ 64) × (more ≤ 16) × TakesAll F.Fn f.now high.now }
+        requires sends { IsSync Rt.row × IsSync F.row × IsSync G.row × IsSync T.row × IsSend U.row }
+        requires room { next + length high.now < 2 ^ 64 }
+        requires workers { more ≤ 16 }
+        requires takes { TakesAll F.Fn f.now high.now }
         ensures { IfOk result (λ answers. GivesAll F.Fn f.entry.now high.entry.now answers.items) }
     { answers_from(rt, alloc, next, high, more, f, gate) };
     let (answers, others) = join(rt, front, back);

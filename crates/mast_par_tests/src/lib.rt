@@ -188,8 +188,13 @@ impl Tally {
 
     // Whether the gate was told of each piece once and each was asked once, by at most so many workers at a time.
     fn is_right(&self, workers: u64) -> bool {
-        self.told.iter().all(|count| count.load(Ordering::SeqCst) == 1)
-            && self.asked.iter().all(|count| count.load(Ordering::SeqCst) == 1)
+        self.told
+            .iter()
+            .all(|count| count.load(Ordering::SeqCst) == 1)
+            && self
+                .asked
+                .iter()
+                .all(|count| count.load(Ordering::SeqCst) == 1)
             && self.most.load(Ordering::SeqCst) <= workers
     }
 }
@@ -228,7 +233,10 @@ fn asks_each_once<Rt: Threads + Sync>(
 fn each_piece_is_asked_once_by_few_workers(rt: HostRuntime) -> Result<(), Fail> {
     for workers in [1, 2, 3, 7, 16] {
         for pieces in [0, 1, 2, 3, 16, 40] {
-            assert!(rt; asks_each_once(&rt, rt.alloc(), pieces, workers)?, "{pieces} {workers}");
+            assert!(rt;
+                asks_each_once(&rt, rt.alloc(), pieces, workers)?,
+                "{pieces} {workers}"
+            );
         }
     }
     Ok(())
