@@ -6,10 +6,10 @@ use Rattle.mast_cq.specs.declared.atom.Arg.TheVariants.{Blank, Var, Constant}
 use Rattle.mast_cq.specs.declared.atom.Atom.{Atom}
 use Rattle.mast_cq.specs.declared.atom.Atom.TheVariants.{Class, Role, Attr}
 use Rattle.mast_cq.specs.declared.query.Cq.{Cq}
-use Rattle.mast_cq.specs.Queries.{has_var, Takes, first, later}
-use Rattle.mast_cq.specs.Sorts.{or_else}
+use Rattle.mast_cq.specs.Queries.{has_var, or_else, Takes, first, later}
 use Rattle.mast_cq.specs.NormalForms.{arg_uses, atom_uses, uses, alone, first_arg, first_atom, first_var, Occurs, Twice, Elsewhere, InAnswer, Spread}
 
+-- where neither holds, each is false
 pub or_false : (a b : Bool) → (a || b) ≡ false → (a ≡ false) × (b ≡ false)
 or_false true b e = absurd (cc)
 or_false false b e = (refl, e)
@@ -22,6 +22,7 @@ and_true : (a b : Bool) → (a && b) ≡ true → (a ≡ true) × (b ≡ true)
 and_true true b e = (refl, e)
 and_true false b e = absurd (cc)
 
+-- a variable that is alone is no answer, and stands in one place
 pub alone_parts : (answer : List Arg) (gs : List Atom) (n : ℕ) → alone answer gs n ≡ true → (has_var answer n ≡ false) × (uses n gs ≡ 1)
 alone_parts answer gs n e = let k = and_true (not (has_var answer n)) (nat_eq (uses n gs) 1) e in (not_true (has_var answer n) k.0, eqb-true (uses n gs) 1 k.1)
 
@@ -43,6 +44,7 @@ first_in_atom t (Class a x) n e = first_in_arg t x n e
 first_in_atom t (Role a x y) n e = or_else_some t (first_arg t x) (first_arg t y) n (first_in_arg t x n) (first_in_arg t y n) e
 first_in_atom t (Attr a x y) n e = or_else_some t (first_arg t x) (first_arg t y) n (first_in_arg t x n) (first_in_arg t y n) e
 
+-- the first variable that passes a test passes it
 pub first_true : (t : ℕ → Bool) (gs : List Atom) (n : ℕ) → first_var t gs ≡ Some n → t n ≡ true
 first_true t [] n e = cc
 first_true t (g ∷ gs) n e = or_else_some t (first_atom t g) (first_var t gs) n (first_in_atom t g n) (first_true t gs n) e

@@ -8,7 +8,8 @@ use Rattle.mast_cq.specs.declared.atom.Atom.{Atom}
 use Rattle.mast_cq.specs.declared.atom.Atom.TheVariants.{Class, Role, Attr}
 use Rattle.mast_cq.specs.Unification.{Replacement, replace_arg, replace, only, wins, unify_args, fuller, Meeting, after, meeting_of_one, meeting_of_two, meeting_of_pairs, meeting}
 use Rattle.mast_cq.specs.Meanings.{Fact, InClass, InRole, InAttr}
-use Rattle.mast_cq.specs.Meanings.{Fits as FitsBy, Match as MatchBy, Gives as GivesBy}
+use Rattle.mast_cq.specs.Meanings.{Fits as FitsBy, Match as MatchBy}
+use Rattle.mast_cq.proofs.ReplacementLemmas.{respects_fits, respects_stands}
 use Rattle.mast_cq.specs.UnifierMeanings.{Stands as StandsBy, Respects as RespectsBy, Joined as JoinedBy, KnownArg, KnownAtom}
 
 module _ {X : Type 0} (constant : ℕ → X) (Known : ℕ → Type 0) (apart : (c d : ℕ) → Known c → Known d → constant c ≡ constant d → c ≡ d) where
@@ -27,23 +28,8 @@ module _ {X : Type 0} (constant : ℕ → X) (Known : ℕ → Type 0) (apart : (
   abbrev Joined : (ℕ → X) → Fact X → Option Meeting → Type 0
   Joined s f o = JoinedBy constant s f o
 
-  stands_fits : (s : ℕ → X) (a : Arg) (t : X) → Stands s a t → Fits s a t
-  stands_fits s Blank t h = absurd h
-  stands_fits s (Var x) t h = h
-  stands_fits s (Constant c) t h = h
-
-  respects_fits : (s : ℕ → X) (r : Replacement) → Respects s r → (a : Arg) (t : X) → Fits s a t → Fits s (replace_arg r a) t
-  respects_fits s r h Blank t f = tt
-  respects_fits s r h (Var x) t f = stands_fits s (r x) t (rw f (h x))
-  respects_fits s r h (Constant c) t f = f
-
-  respects_stands : (s : ℕ → X) (r : Replacement) → Respects s r → (a : Arg) (t : X) → Stands s a t → Stands s (replace_arg r a) t
-  respects_stands s r h Blank t f = absurd f
-  respects_stands s r h (Var x) t f = rw f (h x)
-  respects_stands s r h (Constant c) t f = f
-
   respects_after : (s : ℕ → X) (r q : Replacement) → Respects s r → Respects s q → Respects s (after r q)
-  respects_after s r q h k n = respects_stands s q k (r n) (s n) (h n)
+  respects_after s r q h k n = respects_stands constant s q k (r n) (s n) (h n)
 
   respects_var : (s : ℕ → X) → Respects s Var
   respects_var s n = refl
@@ -54,17 +40,6 @@ module _ {X : Type 0} (constant : ℕ → X) (Known : ℕ → Type 0) (apart : (
 
   respects_only : (s : ℕ → X) (x : ℕ) (a : Arg) → Stands s a (s x) → Respects s (only x a)
   respects_only s x a h n = only_case s x a n (nat_eq x n) refl h
-
-  pub respects_match : (s : ℕ → X) (r : Replacement) → Respects s r → (g : Atom) (f : Fact X) → Match s g f → Match s (replace r g) f
-  respects_match s r h (Class a x) (InClass b t) m = (m.0, respects_fits s r h x t m.1)
-  respects_match s r h (Class a x) (InRole b t u) m = absurd m
-  respects_match s r h (Class a x) (InAttr b t u) m = absurd m
-  respects_match s r h (Role a x y) (InRole b t u) m = (m.0, respects_fits s r h x t m.1, respects_fits s r h y u m.2)
-  respects_match s r h (Role a x y) (InClass b t) m = absurd m
-  respects_match s r h (Role a x y) (InAttr b t u) m = absurd m
-  respects_match s r h (Attr a x y) (InAttr b t u) m = (m.0, respects_fits s r h x t m.1, respects_fits s r h y u m.2)
-  respects_match s r h (Attr a x y) (InClass b t) m = absurd m
-  respects_match s r h (Attr a x y) (InRole b t u) m = absurd m
 
   -- two arguments that fit one term unify, under every assignment that they fit under
   record Unified (s : ℕ → X) (o : Option Replacement) : Type 0 where
@@ -113,11 +88,11 @@ module _ {X : Type 0} (constant : ℕ → X) (Known : ℕ → Type 0) (apart : (
     by = record { replacement = u.r; atom = Class a (fuller (replace_arg u.r x) (replace_arg u.r y)) };
     is = ap (meeting_of_one (Class a) x y) u.is;
     respects = u.respects;
-    matches = (e, fits_fuller s (replace_arg u.r x) (replace_arg u.r y) t (respects_fits s u.r u.respects x t f) (respects_fits s u.r u.respects y t g));
+    matches = (e, fits_fuller s (replace_arg u.r x) (replace_arg u.r y) t (respects_fits constant s u.r u.respects x t f) (respects_fits constant s u.r u.respects y t g));
   }
 
   fits_both : (s : ℕ → X) (r : Replacement) (x y : Arg) (t : X) → Respects s r → Fits s x t → Fits s y t → Fits s (fuller (replace_arg r x) (replace_arg r y)) t
-  fits_both s r x y t h f g = fits_fuller s (replace_arg r x) (replace_arg r y) t (respects_fits s r h x t f) (respects_fits s r h y t g)
+  fits_both s r x y t h f g = fits_fuller s (replace_arg r x) (replace_arg r y) t (respects_fits constant s r h x t f) (respects_fits constant s r h y t g)
 
   record Two (s : ℕ → X) (x y z w : Arg) (t u : X) (form : Arg → Arg → Atom) (o : Option Meeting) : Type 0 where
     q : Replacement
@@ -129,7 +104,7 @@ module _ {X : Type 0} (constant : ℕ → X) (Known : ℕ → Type 0) (apart : (
   two_joined : (answer : List Arg) (s : ℕ → X) (form : Arg → Arg → Atom) (x y z w : Arg) (t u : X) (o : Option Replacement) → Unified s o
       → KnownArg Known y → KnownArg Known w → Fits s x t → Fits s y u → Fits s z t → Fits s w u → Two s x y z w t u form (meeting_of_pairs answer form x y z w o)
   two_joined answer s form x y z w t u o v ky kw fx fy fz fw =
-      let k = unify_unified answer s (replace_arg v.r y) (replace_arg v.r w) u (known_replaced v.r v.knows y ky) (known_replaced v.r v.knows w kw) (respects_fits s v.r v.respects y u fy) (respects_fits s v.r v.respects w u fw) in
+      let k = unify_unified answer s (replace_arg v.r y) (replace_arg v.r w) u (known_replaced v.r v.knows y ky) (known_replaced v.r v.knows w kw) (respects_fits constant s v.r v.respects y u fy) (respects_fits constant s v.r v.respects w u fw) in
       let h = respects_after s v.r k.r v.respects k.respects in
       record {
         q = after v.r k.r;
@@ -163,6 +138,7 @@ module _ {X : Type 0} (constant : ℕ → X) (Known : ℕ → Type 0) (apart : (
     matches = j.matches;
   }
 
+  -- two atoms that one fact is under an assignment have a meeting, which the assignment respects and whose atom the fact is
   pub join : (answer : List Arg) (s : ℕ → X) (g h : Atom) (f : Fact X) → KnownAtom Known g → KnownAtom Known h → Match s g f → Match s h f → Joined s f (meeting answer g h)
   join answer s (Class a x) (Class b y) (InClass c t) kg kh m n =
       same_name s (InClass c t) a b _ (m.0 ∙ sym n.0) (one_joined s a c x y t (unify_args answer x y) m.0 m.1 n.1 (unify_unified answer s x y t kg kh m.1 n.1))
@@ -182,10 +158,3 @@ module _ {X : Type 0} (constant : ℕ → X) (Known : ℕ → Type 0) (apart : (
   join answer s (Role a x y) (Attr b z w) (InRole c t u) kg kh m n = absurd n
   join answer s (Attr a x y) (Class b z) (InAttr c t u) kg kh m n = absurd n
   join answer s (Attr a x y) (Role b z w) (InAttr c t u) kg kh m n = absurd n
-
-  -- an assignment that respects a replacement gives the same tuples after it
-  pub respects_gives : (s : ℕ → X) (r : Replacement) → Respects s r → (answer : List Arg) (tuple : List X) → GivesBy constant s answer tuple → GivesBy constant s (map (replace_arg r) answer) tuple
-  respects_gives s r h [] [] w = w
-  respects_gives s r h [] (t ∷ ts) w = w
-  respects_gives s r h (a ∷ answer) [] w = w
-  respects_gives s r h (a ∷ answer) (t ∷ ts) w = (respects_fits s r h a t w.0, respects_gives s r h answer ts w.1)

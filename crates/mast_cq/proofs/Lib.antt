@@ -1,3 +1,4 @@
+pub mod ListLemmas
 pub mod SortLemmas
 pub mod ContentLemmas
 pub mod PutLemmas
@@ -5,6 +6,7 @@ pub mod OrderLemmas
 pub mod AloneLemmas
 pub mod SettleLemmas
 pub mod SameTuplesLemmas
+pub mod ReplacementLemmas
 pub mod JoinLemmas
 pub mod PartsLemmas
 pub mod PlaceLemmas
@@ -13,3 +15,9 @@ pub mod PropertyLemmas
 pub mod TakesLemmas
 pub mod MovesLemmas
 pub mod WinnerLemmas
+pub mod StepLemmas
+pub mod MadeLemmas
+pub mod OriginLemmas
+pub mod StepOriginLemmas
+pub mod HashLemmas
+pub mod TotalOrderLemmas

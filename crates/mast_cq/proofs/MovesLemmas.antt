@@ -9,17 +9,17 @@ use Rattle.mast_cq.specs.NormalForms.{Occurs}
 use Rattle.mast_cq.specs.Unification.{Replacement, replace_arg, only, wins, unify_args, Meeting, after, meeting_of_one, meeting_of_two, meeting_of_pairs, meeting}
 
 -- r moves nothing but a and b
-abbrev Fixes : Arg → Arg → Replacement → Type 0
+abbrev pub Fixes : Arg → Arg → Replacement → Type 0
 Fixes a b r = (n : ℕ) → (a ≡ Var n → ⊥) → (b ≡ Var n → ⊥) → r n ≡ Var n
 
 -- and gives what it moves to a, to b or to itself
-abbrev Stays : Arg → Arg → Replacement → Type 0
+abbrev pub Stays : Arg → Arg → Replacement → Type 0
 Stays a b r = (n : ℕ) → (r n ≡ Var n) ⊎ ((r n ≡ a) ⊎ (r n ≡ b))
 
 -- both: it is the identity elsewhere
-record Tame (a b : Arg) (r : Replacement) : Type 0 where
-  fixes : Fixes a b r
-  stays : Stays a b r
+pub record Tame (a b : Arg) (r : Replacement) : Type 0 where
+  pub fixes : Fixes a b r
+  pub stays : Stays a b r
 
 tame_var : (a b : Arg) → Tame a b Var
 tame_var a b = record { fixes = λ n f g. refl; stays = λ n. inl refl }
@@ -55,7 +55,8 @@ tame_constants : (c d : ℕ) (b : Bool) (r : Replacement) → elim b [ true ↦ 
 tame_constants c d true r e = tame_some (Constant c) (Constant d) Var r (tame_var (Constant c) (Constant d)) e
 tame_constants c d false r e = cc
 
-tame : (answer : List Arg) (a b : Arg) (r : Replacement) → unify_args answer a b ≡ Some r → Tame a b r
+-- unifying two arguments moves nothing but them, and gives what it moves to one of them
+pub tame : (answer : List Arg) (a b : Arg) (r : Replacement) → unify_args answer a b ≡ Some r → Tame a b r
 tame answer Blank b r e = tame_some Blank b Var r (tame_var Blank b) e
 tame answer (Var x) Blank r e = tame_some (Var x) Blank Var r (tame_var (Var x) Blank) e
 tame answer (Var x) (Var y) r e = tame_choice x y (wins answer x y) r e

@@ -26,8 +26,8 @@ slice_equal [] (y ∷ ys) e = cc
 slice_equal (x ∷ xs) [] e = cc
 slice_equal (x ∷ xs) (y ∷ ys) e = slice_case x y xs ys (nat_cmp x y) refl (slice_equal xs ys) e
 
--- atoms with one key are equal
-arg_inj : (x y : Arg) (m n : List ℕ) → arg_key x m ≡ arg_key y n → (x ≡ y) × (m ≡ n)
+-- arguments with one key, whatever follows, are equal
+pub arg_inj : (x y : Arg) (m n : List ℕ) → arg_key x m ≡ arg_key y n → (x ≡ y) × (m ≡ n)
 arg_inj Blank Blank m n e = (refl, cc)
 arg_inj Blank (Var y) m n e = absurd (cc)
 arg_inj Blank (Constant c) m n e = absurd (cc)
@@ -45,6 +45,7 @@ tail_of x y u v m n e = (cc, cc)
 name_same : (a b : Name) → a.0 ≡ b.0 → a ≡ b
 name_same a b e = ap (λ n. record { 0 = n }) e
 
+-- atoms with one key are equal
 pub key_inj : (g h : Atom) → atom_key g ≡ atom_key h → g ≡ h
 key_inj (Class a x) (Class b y) e = let t = tail_of 0 0 a.0 b.0 (arg_key x []) (arg_key y []) e in ap₂ Class (name_same a b t.0) (arg_inj x y [] [] t.1).0
 key_inj (Class a x) (Role b z w) e = cc
@@ -64,6 +65,7 @@ key_inj (Attr a x y) (Attr b z w) e =
     let j = arg_inj y w [] [] k.1 in
     let p = name_same a b t.0 in let q = k.0 in let r = j.0 in cc
 
+-- atoms of which neither comes before the other are equal
 pub order_equal : (g h : Atom) → atom_order g h ≡ Equal → g ≡ h
 order_equal g h e = key_inj g h (slice_equal (atom_key g) (atom_key h) e)
 
@@ -76,6 +78,7 @@ put_each : (P : Atom → Type 0) (g : Atom) (hs : List Atom) → P g → AllByRe
 put_each P g [] p h = (p, tt)
 put_each P g (i ∷ hs) p h = put_case P g i hs (atom_order g i) (put g hs) p h.0 h.1 (put_each P g hs p h.1)
 
+-- what holds of each atom holds of each in order
 pub order_each : (P : Atom → Type 0) (gs : List Atom) → AllByRecursion P gs → AllByRecursion P (in_order gs)
 order_each P [] h = tt
 order_each P (g ∷ gs) h = put_each P g (in_order gs) h.0 (order_each P gs h.1)
@@ -90,6 +93,7 @@ put_out : (P : Atom → Type 0) (g : Atom) (hs : List Atom) → AllByRecursion P
 put_out P g [] w = (w.0, tt)
 put_out P g (h ∷ hs) w = put_back P g h hs (atom_order g h) (put g hs) refl w (put_out P g hs)
 
+-- and what holds of each in order holds of each
 pub order_out : (P : Atom → Type 0) (gs : List Atom) → AllByRecursion P (in_order gs) → AllByRecursion P gs
 order_out P [] h = tt
 order_out P (g ∷ gs) h = let v = put_out P g (in_order gs) h in (v.0, order_out P gs v.1)
@@ -104,6 +108,7 @@ put_length : (g : Atom) (hs : List Atom) → length (put g hs) ≤ suc (length h
 put_length g [] = omega arith
 put_length g (h ∷ hs) = by_length g h hs (atom_order g h) (put g hs) (put_length g hs)
 
+-- in order there are no more atoms
 pub order_length : (gs : List Atom) → length (in_order gs) ≤ length gs
 order_length [] = omega arith
 order_length (g ∷ gs) = let a = put_length g (in_order gs) in let b = order_length gs in omega arith
@@ -117,6 +122,7 @@ put_places : (g : Atom) (hs : List Atom) → places (put g hs) ≤ atom_places g
 put_places g [] = omega arith
 put_places g (h ∷ hs) = by_places g h hs (atom_order g h) (put g hs) (put_places g hs)
 
+-- nor more places with a variable
 pub order_places : (gs : List Atom) → places (in_order gs) ≤ places gs
 order_places [] = omega arith
 order_places (g ∷ gs) = let a = put_places g (in_order gs) in let b = order_places gs in omega arith
@@ -135,6 +141,7 @@ blank_places n (Class a x) = blank_arg_places n x
 blank_places n (Role a x y) = let p = blank_arg_places n x in let q = blank_arg_places n y in omega arith
 blank_places n (Attr a x y) = let p = blank_arg_places n x in let q = blank_arg_places n y in omega arith
 
+-- a variable that becomes `_` leaves its places
 pub map_places : (n : ℕ) (gs : List Atom) → places (map (blank n) gs) + uses n gs ≡ places gs
 map_places n [] = omega arith
 map_places n (g ∷ gs) = let p = blank_places n g in let q = map_places n gs in omega arith
@@ -166,11 +173,11 @@ pub in_order_ordered : (gs : List Atom) → Ordered (in_order gs)
 in_order_ordered [] = tt
 in_order_ordered (g ∷ gs) = put_ordered g (in_order gs) (in_order_ordered gs)
 
--- atoms in order stay as they are
 put_first : (g : Atom) (gs : List Atom) → IsBefore g gs → put g gs ≡ g ∷ gs
 put_first g [] b = refl
 put_first g (h ∷ hs) b = ap (λ o. insert_by o g h hs (put g hs)) b
 
+-- atoms that are in order, each once, stay as they are
 pub ordered_same : (gs : List Atom) → Ordered gs → in_order gs ≡ gs
 ordered_same [] w = refl
 ordered_same (g ∷ gs) w = ap (put g) (ordered_same gs w.1) ∙ put_first g gs w.0

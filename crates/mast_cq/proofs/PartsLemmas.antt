@@ -8,8 +8,8 @@ use Rattle.mast_cq.specs.declared.atom.Atom.{Atom}
 use Rattle.mast_cq.specs.declared.atom.Atom.TheVariants.{Class, Role, Attr}
 use Rattle.mast_cq.specs.Unification.{Replacement, replace_arg, replace, only, wins, unify_args, fuller, Meeting, after, meeting_of_one, meeting_of_two, meeting_of_pairs, meeting}
 use Rattle.mast_cq.specs.Meanings.{Fact, InClass, InRole, InAttr}
-use Rattle.mast_cq.specs.Meanings.{Fits as FitsBy, Match as MatchBy, Gives as GivesBy}
-use Rattle.mast_cq.specs.UnifierMeanings.{IsProper, Proper, value as value_by, before as before_by, Parts as PartsBy}
+use Rattle.mast_cq.specs.Meanings.{Fits as FitsBy, Match as MatchBy}
+use Rattle.mast_cq.specs.UnifierMeanings.{IsProper, Proper, Parts as PartsBy}
 
 module _ {X : Type 0} (constant : ℕ → X) where
   abbrev Fits : (ℕ → X) → Arg → X → Type 0
@@ -18,35 +18,8 @@ module _ {X : Type 0} (constant : ℕ → X) where
   abbrev Match : (ℕ → X) → Atom → Fact X → Type 0
   Match s g f = MatchBy constant s g f
 
-  abbrev value : X → (ℕ → X) → Arg → X
-  value d s a = value_by constant d s a
-
-  abbrev before : (ℕ → X) → Replacement → ℕ → X
-  before s r = before_by constant s r
-
   abbrev Parts : Atom → Atom → Meeting → Type 0
   Parts g h M = PartsBy constant g h M
-
-  proper_value : (d : X) (s : ℕ → X) (a : Arg) (t : X) → IsProper a → Fits s a t → t ≡ value d s a
-  proper_value d s Blank t p f = absurd p
-  proper_value d s (Var x) t p f = f
-  proper_value d s (Constant c) t p f = f
-
-  fits_before : (s : ℕ → X) (r : Replacement) → Proper r → (a : Arg) (t : X) → Fits s (replace_arg r a) t → Fits (before s r) a t
-  fits_before s r p Blank t f = tt
-  fits_before s r p (Var x) t f = proper_value (s x) s (r x) t (p x) f
-  fits_before s r p (Constant c) t f = f
-
-  pub match_before : (s : ℕ → X) (r : Replacement) → Proper r → (g : Atom) (f : Fact X) → Match s (replace r g) f → Match (before s r) g f
-  match_before s r p (Class a x) (InClass b t) m = (m.0, fits_before s r p x t m.1)
-  match_before s r p (Class a x) (InRole b t u) m = absurd m
-  match_before s r p (Class a x) (InAttr b t u) m = absurd m
-  match_before s r p (Role a x y) (InRole b t u) m = (m.0, fits_before s r p x t m.1, fits_before s r p y u m.2)
-  match_before s r p (Role a x y) (InClass b t) m = absurd m
-  match_before s r p (Role a x y) (InAttr b t u) m = absurd m
-  match_before s r p (Attr a x y) (InAttr b t u) m = (m.0, fits_before s r p x t m.1, fits_before s r p y u m.2)
-  match_before s r p (Attr a x y) (InClass b t) m = absurd m
-  match_before s r p (Attr a x y) (InRole b t u) m = absurd m
 
   -- two arguments are equal, or one is a blank
   abbrev pub Agree : Arg → Arg → Type 0
@@ -268,6 +241,7 @@ module _ {X : Type 0} (constant : ℕ → X) where
   names_case a b g h M o true e k m = k (ap (λ n. record { 0 = n }) (eqb-true a.0 b.0 e)) m
   names_case a b g h M o false e k m = absurd (no_meeting M m)
 
+  -- what a meeting's atom is under an assignment, both atoms are after the replacement, by which no variable becomes `_`
   pub parts : (answer : List Arg) (g h : Atom) (M : Meeting) → meeting answer g h ≡ Some M → Parts g h M
   parts answer (Class a x) (Class b y) M e =
       names_case a b (Class a x) (Class b y) M (meeting_of_one (Class a) x y (unify_args answer x y)) (nat_eq a.0 b.0) refl
@@ -284,10 +258,3 @@ module _ {X : Type 0} (constant : ℕ → X) where
   parts answer (Role a x y) (Attr b z w) M e = absurd (no_meeting M e)
   parts answer (Attr a x y) (Class b z) M e = absurd (no_meeting M e)
   parts answer (Attr a x y) (Role b z w) M e = absurd (no_meeting M e)
-
-  -- and the answer list takes the same tuple before
-  pub gives_before : (s : ℕ → X) (r : Replacement) → Proper r → (answer : List Arg) (tuple : List X) → GivesBy constant s (map (replace_arg r) answer) tuple → GivesBy constant (before s r) answer tuple
-  gives_before s r p [] [] w = w
-  gives_before s r p [] (t ∷ ts) w = w
-  gives_before s r p (a ∷ answer) [] w = w
-  gives_before s r p (a ∷ answer) (t ∷ ts) w = (fits_before s r p a t w.0, gives_before s r p answer ts w.1)

@@ -12,6 +12,7 @@ all_at P [] k x h e = cc
 all_at P (y ∷ xs) zero x h e = subst P (some_inj y x e) h.0
 all_at P (y ∷ xs) (suc k) x h e = all_at P xs k x h.1 e
 
+-- what holds at each place holds of each
 pub at_all : {X : Type 0} (P : X → Type 0) (xs : List X) → ((k : ℕ) (x : X) → slice_get xs k ≡ Some x → P x) → AllByRecursion P xs
 at_all P [] h = tt
 at_all P (x ∷ xs) h = (h 0 x refl, at_all P xs (λ k y e. h (suc k) y e))
@@ -40,6 +41,7 @@ pub record There {X : Type 0} (xs : List X) (k : ℕ) : Type 0 where
   pub element : X
   pub is : slice_get xs k ≡ Some element
 
+-- a place that is there after a map was there before
 pub there_map : {X Y : Type 0} (f : X → Y) (xs : List X) (k : ℕ) (y : Y) → slice_get (map f xs) k ≡ Some y → There xs k
 there_map f [] k y e = cc
 there_map f (x ∷ xs) zero y e = record { element = x; is = refl }
@@ -68,6 +70,7 @@ pub data AfterTwo {X : Type 0} (xs : List X) (i j k : ℕ) (a y : X) : Type 0 wh
 apart : (k i : ℕ) → nat_eq k i ≡ false → k ≡ i → ⊥
 apart k i f e = let t = eq-eqb k i e in cc
 
+-- after two writes of one element each place has it, or what it had
 pub after_two : {X : Type 0} (xs : List X) (i j k : ℕ) (a y : X) → slice_get (slice_set (slice_set xs i a) j a) k ≡ Some y → AfterTwo xs i j k a y
 after_two xs i j k a y e = at_j (nat_eq k j) refl
   where
@@ -88,6 +91,7 @@ after_two xs i j k a y e = at_j (nat_eq k j) refl
 pub two_second : {X : Type 0} (xs : List X) (i j : ℕ) (a x : X) → slice_get xs j ≡ Some x → slice_get (slice_set (slice_set xs i a) j a) j ≡ Some a
 two_second xs i j a x e = let w = set_there xs i j a x e in get_set (slice_set xs i a) j a w.element w.is
 
+-- after two writes the first place has the element, where it was there
 pub two_first : {X : Type 0} (xs : List X) (i j : ℕ) (a x : X) → slice_get xs i ≡ Some x → slice_get (slice_set (slice_set xs i a) j a) i ≡ Some a
 two_first xs i j a x e = go (nat_eq i j) refl
   where

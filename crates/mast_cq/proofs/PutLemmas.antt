@@ -14,6 +14,7 @@ Passes g (suc k) (h ∷ hs) = (atom_order g h ≡ Greater) × Passes g k hs
 pub passes_none : (g : Atom) (hs : List Atom) → Passes g 0 hs
 passes_none g hs = tt
 
+-- an atom that comes after one more
 pub passes_next : (g : Atom) (k : ℕ) (hs : List Atom) (d : Atom) → k < length hs → Passes g k hs → atom_order g (slice_index_or hs k d) ≡ Greater → Passes g (suc k) hs
 passes_next g k [] d l p e = absurd (omega arith)
 passes_next g zero (h ∷ hs) d l p e = (e, tt)

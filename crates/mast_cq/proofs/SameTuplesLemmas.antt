@@ -10,13 +10,9 @@ use Rattle.mast_cq.specs.Queries.{has_var}
 use Rattle.mast_cq.specs.NormalForms.{arg_uses, atom_uses, uses, places, blank_arg, blank, alone, first_var, in_order, without, settle, normal_form}
 use Rattle.mast_cq.specs.Meanings.{Fact, InClass, InRole, InAttr}
 use Rattle.mast_cq.specs.Meanings.{Fits as FitsBy, Match as MatchBy, Gives as GivesBy, MetBy, HasTuple as HasTupleBy}
+use Rattle.mast_cq.proofs.ListLemmas.{each_map}
 use Rattle.mast_cq.proofs.OrderLemmas.{order_each, order_out}
 use Rattle.mast_cq.proofs.AloneLemmas.{alone_parts, first_true, or_false}
-
--- what holds of each holds of each after a map, where the map keeps it
-each_map : {X Y : Type 0} (P : X → Type 0) (Q : Y → Type 0) (f : X → Y) → ((x : X) → P x → Q (f x)) → (xs : List X) → AllByRecursion P xs → AllByRecursion Q (map f xs)
-each_map P Q f k [] h = tt
-each_map P Q f k (x ∷ xs) h = (k x h.0, each_map P Q f k xs h.1)
 
 module _ {X : Type 0} (constant : ℕ → X) where
   abbrev Fits : (ℕ → X) → Arg → X → Type 0

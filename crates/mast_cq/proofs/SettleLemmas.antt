@@ -5,9 +5,9 @@ use Rattle.mast_cq.specs.declared.atom.Arg.TheVariants.{Blank, Var, Constant}
 use Rattle.mast_cq.specs.declared.atom.Atom.{Atom}
 use Rattle.mast_cq.specs.declared.atom.Atom.TheVariants.{Class, Role, Attr}
 use Rattle.mast_cq.specs.declared.query.Cq.{Cq}
-use Rattle.mast_cq.specs.Sorts.{or_else}
+use Rattle.mast_cq.specs.Queries.{or_else}
 use Rattle.mast_cq.specs.NormalForms.{arg_places, atom_places, places, blank, alone, first_arg, first_atom, first_var, in_order, without, settle, normal_form, Ordered, IsNormal, Spread}
-use Rattle.mast_cq.specs.Blanks.{blanked_all}
+use Rattle.mast_cq.specs.inside.Blanks.{blanked_all}
 use Rattle.mast_cq.proofs.OrderLemmas.{order_places, order_length, map_places, in_order_ordered, ordered_same}
 use Rattle.mast_cq.proofs.AloneLemmas.{alone_parts, first_true, alone_none, spread_of}
 
@@ -128,7 +128,6 @@ normal_fixed q n =
     none None e = refl
     none (Some m) e = let k = alone_parts q.answer q.atoms m (first_true (alone q.answer q.atoms) q.atoms m e) in absurd (n.none_alone m k.0 k.1)
 
--- and there are no more atoms than before
 map_length : (n : ℕ) (gs : List Atom) → length (map (blank n) gs) ≡ length gs
 map_length n [] = refl
 map_length n (g ∷ gs) = ap suc (map_length n gs)
@@ -144,5 +143,6 @@ settle_length answer (suc k) gs = go (first_var (alone answer gs) gs) (λ n. set
     go None f = omega arith
     go (Some n) f = let a = f n in let b = without_length n gs in omega arith
 
+-- the normal form has no more atoms than the query
 pub normal_form_length : (q : Cq) → length (normal_form q).atoms ≤ length q.atoms
 normal_form_length q = let a = settle_length q.answer (places q.atoms) (in_order q.atoms) in let b = order_length q.atoms in omega arith

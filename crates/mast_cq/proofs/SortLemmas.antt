@@ -4,8 +4,10 @@ use borrow.Author.Tests.{eqb-true, eq-eqb}
 use Rattle.mast_cq.specs.declared.atom.Arg.{Arg}
 use Rattle.mast_cq.specs.declared.atom.Arg.TheVariants.{Blank, Var, Constant}
 use Rattle.mast_cq.specs.declared.atom.Atom.{Atom}
-use Rattle.mast_cq.specs.Queries.{In}
-use Rattle.mast_cq.specs.Sorts.{objects_of, values_of, arguments_of, of_all, Clashes, EachHasOneSort, IsFirst, IsSortBreach, same_arg, stands, stands_in, clashes, or_else, first_where, first_in}
+use Rattle.mast_cq.specs.Queries.{In, or_else}
+use Rattle.mast_cq.specs.Sorts.{objects_of, values_of, arguments_of, of_all, Clashes, EachHasOneSort, IsFirst, IsSortBreach, HasSortAnswer, HasOneSortAnswer}
+use Rattle.mast_cq.proofs.ListLemmas.{in_append, append_left, append_right}
+use Rattle.mast_cq.specs.inside.SortTests.{same_arg, stands, stands_in, clashes, first_where, first_in}
 
 -- arguments that the test calls one are one, and the other way
 same_is : (x y : Arg) → same_arg x y ≡ true → x ≡ y
@@ -47,21 +49,6 @@ and_in false b e = absurd (cc)
 and_both : (a b : Bool) → a ≡ true → b ≡ true → (a && b) ≡ true
 and_both true b d e = e
 and_both false b d e = cc
-
--- membership in two lists
-in_append : {X : Type 0} (x : X) (xs ys : List X) → In x (xs ++ ys) → In x xs ⊎ In x ys
-in_append x [] ys h = inr h
-in_append x (z ∷ xs) ys (inl e) = inl (inl e)
-in_append x (z ∷ xs) ys (inr h) = elim (in_append x xs ys h) [ inl a ↦ inl (inr a) | inr b ↦ inr b ]
-
-append_left : {X : Type 0} (x : X) (xs ys : List X) → In x xs → In x (xs ++ ys)
-append_left x [] ys h = absurd h
-append_left x (z ∷ xs) ys (inl e) = inl e
-append_left x (z ∷ xs) ys (inr h) = inr (append_left x xs ys h)
-
-append_right : {X : Type 0} (x : X) (xs ys : List X) → In x ys → In x (xs ++ ys)
-append_right x [] ys h = h
-append_right x (z ∷ xs) ys h = inr (append_right x xs ys h)
 
 -- the test of a list
 stands_is : (x : Arg) (ys : List Arg) → stands x ys ≡ true → In x ys
@@ -140,3 +127,36 @@ first_in_is p (g ∷ gs) = ap (or_else (first_where p (arguments_of g))) (first_
 pub first_clash_is : (gs : List Atom) → MatchOption (first_in (clashes gs) gs) (EachHasOneSort gs) (IsSortBreach gs)
 first_clash_is gs = subst (λ o. MatchOption o (EachHasOneSort gs) (IsSortBreach gs)) (sym (first_in_is (clashes gs) gs))
     (found (clashes gs) (Clashes gs) (clashes_is gs) (is_clashes gs) (of_all arguments_of gs))
+
+-- there is something that may be said of each query's sorts
+pub sort_answer : (gs : List Atom) → HasSortAnswer gs
+sort_answer gs = go (first_in (clashes gs) gs) (first_clash_is gs)
+  where
+    go : (o : Option Arg) → MatchOption o (EachHasOneSort gs) (IsSortBreach gs) → HasSortAnswer gs
+    go None h = record { said = None; is = h }
+    go (Some x) h = record { said = Some (record { arg = x }); is = h }
+
+-- a list has one first element at most with P
+first_one : (P : Arg → Type 0) (xs : List Arg) (x y : Arg) → IsFirst P xs x → IsFirst P xs y → x ≡ y
+first_one P [] x y h k = absurd h
+first_one P (z ∷ xs) x y (inl h) (inl k) = h.0 ∙ sym k.0
+first_one P (z ∷ xs) x y (inl h) (inr k) = absurd (k.0 h.1)
+first_one P (z ∷ xs) x y (inr h) (inl k) = absurd (h.0 k.1)
+first_one P (z ∷ xs) x y (inr h) (inr k) = first_one P xs x y h.1 k.1
+
+-- the first with P is in the list, and has P
+first_in_list : (P : Arg → Type 0) (xs : List Arg) (x : Arg) → IsFirst P xs x → In x xs × P x
+first_in_list P [] x h = absurd h
+first_in_list P (z ∷ xs) x (inl h) = (inl h.0, subst P (sym h.0) h.1)
+first_in_list P (z ∷ xs) x (inr h) = let w = first_in_list P xs x h.1 in (inr w.0, w.1)
+
+-- a breach leaves no query in which each argument has one sort
+breach_not_one : (gs : List Atom) (x : Arg) → IsSortBreach gs x → EachHasOneSort gs → ⊥
+breach_not_one gs x b o = let w = first_in_list (Clashes gs) (of_all arguments_of gs) x b in o x w.0 w.1
+
+-- and nothing else may be said
+pub sort_answer_one : (gs : List Atom) → HasOneSortAnswer gs
+sort_answer_one gs None None h k = refl
+sort_answer_one gs None (Some y) h k = absurd (breach_not_one gs y.arg k h)
+sort_answer_one gs (Some x) None h k = absurd (breach_not_one gs x.arg h k)
+sort_answer_one gs (Some x) (Some y) h k = ap (λ a. Some (record { arg = a })) (first_one (Clashes gs) (of_all arguments_of gs) x.arg y.arg h k)

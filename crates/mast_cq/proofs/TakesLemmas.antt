@@ -9,19 +9,27 @@ pub each_takes : {X : Type 0} (P : X → Type 0) {xs : List X} {x : X} {rest : L
 each_takes P first h = (h.0, h.1)
 each_takes P (later t) h = let w = each_takes P t h.1 in (w.0, (h.0, w.1))
 
+-- and what holds of one and of the rest holds of each
 pub takes_each : {X : Type 0} (P : X → Type 0) {xs : List X} {x : X} {rest : List X} → Takes xs x rest → P x → AllByRecursion P rest → AllByRecursion P xs
 takes_each P first p h = (p, h)
 takes_each P (later t) p h = (h.0, takes_each P t p h.1)
 
+-- what holds of two that are taken out, and of each of the rest, holds of each
 pub two_each : {X : Type 0} (P : X → Type 0) {xs : List X} {x y : X} {rest : List X} → TakesTwo xs x y rest → P x → P y → AllByRecursion P rest → AllByRecursion P xs
 two_each P (here t) p q h = (p, takes_each P t q h)
 two_each P (beyond t) p q h = (h.0, two_each P t p q h.1)
 
--- the rest has one or two elements less
+-- what holds of each holds of the two that are taken out, and of each of the rest
+pub two_out : {X : Type 0} (P : X → Type 0) {xs : List X} {x y : X} {rest : List X} → TakesTwo xs x y rest → AllByRecursion P xs → P x × P y × AllByRecursion P rest
+two_out P (here t) h = let w = each_takes P t h.1 in (h.0, w.0, w.1)
+two_out P (beyond t) h = let w = two_out P t h.1 in (w.0, w.1, (h.0, w.2))
+
+-- the rest has one element less
 pub takes_length : {X : Type 0} {xs : List X} {x : X} {rest : List X} → Takes xs x rest → length xs ≡ suc (length rest)
 takes_length first = refl
 takes_length (later t) = ap suc (takes_length t)
 
+-- the rest has two elements less, where two are taken out
 pub two_length : {X : Type 0} {xs : List X} {x y : X} {rest : List X} → TakesTwo xs x y rest → length xs ≡ suc (suc (length rest))
 two_length (here t) = ap suc (takes_length t)
 two_length (beyond t) = ap suc (two_length t)

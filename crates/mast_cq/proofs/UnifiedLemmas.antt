@@ -11,8 +11,9 @@ use Rattle.mast_cq.specs.Unification.{replace, Meeting, meeting, met, met_if, me
 use Rattle.mast_cq.specs.Meanings.{Fact, InClass, InRole, InAttr, Fits, Match, Gives, MetBy, HasTuple}
 use Rattle.mast_cq.specs.UnifierMeanings.{Joined, KnownAtom, value, before, Parts, UnifiedHas, Unifiable}
 use Rattle.mast_cq.proofs.PlaceLemmas.{all_at, at_all, get_map, there_map, AfterTwo, written, kept, after_two, two_first, two_second, two_other}
-use Rattle.mast_cq.proofs.JoinLemmas.{join, respects_match, respects_gives}
-use Rattle.mast_cq.proofs.PartsLemmas.{parts, match_before, gives_before}
+use Rattle.mast_cq.proofs.JoinLemmas.{join}
+use Rattle.mast_cq.proofs.PartsLemmas.{parts}
+use Rattle.mast_cq.proofs.ReplacementLemmas.{respects_match, respects_gives, match_before, gives_before}
 
 some_same : {X : Type 0} (x y : X) → Some x ≡ Some y → x ≡ y
 some_same x y e = cc
@@ -81,7 +82,7 @@ module _ {X : Type 0} (constant : ℕ → X) (Known : ℕ → Type 0) (apart : (
     has = record {
       under = s;
       each = at_all (MetBy constant P s) _ (λ k y e. at k y (after_two (map (replace J.by.replacement) q.atoms) i j k J.by.atom y e));
-      answers = respects_gives constant Known apart s J.by.replacement J.respects q.answer tuple answers;
+      answers = respects_gives constant s J.by.replacement J.respects q.answer tuple answers;
     };
   }
     where
@@ -94,7 +95,7 @@ module _ {X : Type 0} (constant : ℕ → X) (Known : ℕ → Type 0) (apart : (
           let w = there_map (replace J.by.replacement) q.atoms k y e in
           let v = all_at (MetBy constant P s) q.atoms k w.element each w.is in
           let n : replace J.by.replacement w.element ≡ y = some_same (replace J.by.replacement w.element) y (sym (get_map (replace J.by.replacement) q.atoms k w.element w.is) ∙ e) in
-          subst (MetBy constant P s) n (record { fact = v.fact; matches = respects_match constant Known apart s J.by.replacement J.respects w.element v.fact v.matches; holds = v.holds })
+          subst (MetBy constant P s) n (record { fact = v.fact; matches = respects_match constant s J.by.replacement J.respects w.element v.fact v.matches; holds = v.holds })
 
   fits_value : (d : X) (s : ℕ → X) (a : Arg) → Fits constant s a (value constant d s a)
   fits_value d s Blank = tt

@@ -3,8 +3,11 @@ pub mod Sorts
 pub mod Unification
 pub mod Meetings
 pub mod NormalForms
-pub mod Blanks
 pub mod Meanings
 pub mod UnifierMeanings
 pub mod Properties
 pub mod ListPlaces
+pub mod Steps
+pub mod Origins
+pub mod Hashes
+pub mod inside

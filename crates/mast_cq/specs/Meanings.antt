@@ -1,5 +1,5 @@
 -- What a query means: the facts that its atoms meet under an assignment, and its tuples. Terms and facts are any here.
-use Rattle.std.specs.Prelude.{◌≡◌, ℕ, List, [], ◌∷◌}
+use Rattle.std.specs.Prelude.{◌≡◌, ◌↔◌, ℕ, List, [], ◌∷◌}
 use Rattle.std.specs.List.{AllByRecursion}
 use Rattle.mast_terms.specs.declared.name.Name.{Name}
 use Rattle.mast_cq.specs.declared.atom.Arg.{Arg}
@@ -50,3 +50,7 @@ pub record HasTuple {X : Type 0} (constant : ℕ → X) (P : Fact X → Type 0) 
   pub under : ℕ → X
   pub each : AllByRecursion (MetBy constant P under) q.atoms
   pub answers : Gives constant under q.answer tuple
+
+-- the two queries have the same tuples
+abbrev pub SameTuples : {X : Type 0} → (ℕ → X) → (Fact X → Type 0) → Cq → Cq → Type 0
+SameTuples {X} constant P q r = (tuple : List X) → HasTuple constant P q tuple ↔ HasTuple constant P r tuple

@@ -7,45 +7,49 @@ use Rattle.mast_cq.specs.declared.atom.Arg.TheVariants.{Blank, Var, Constant}
 use Rattle.mast_cq.specs.declared.atom.Atom.{Atom}
 use Rattle.mast_cq.specs.declared.atom.Atom.TheVariants.{Class, Role, Attr}
 use Rattle.mast_cq.specs.declared.query.Cq.{Cq}
-use Rattle.mast_cq.specs.Queries.{has_var, atom_order, Takes}
-use Rattle.mast_cq.specs.Sorts.{or_else}
+use Rattle.mast_cq.specs.Queries.{has_var, atom_order, or_else, Takes}
 
--- in how many places of an argument, of an atom and of atoms the variable stands
+-- in how many places of the argument the variable stands, one or none
 abbrev pub arg_uses : ℕ → Arg → ℕ
 arg_uses n Blank = 0
 arg_uses n (Var m) = elim (nat_eq m n) [ true ↦ 1 | false ↦ 0 ]
 arg_uses n (Constant c) = 0
 
+-- in how many places of the atom it stands
 abbrev pub atom_uses : ℕ → Atom → ℕ
 atom_uses n (Class a x) = arg_uses n x
 atom_uses n (Role a x y) = arg_uses n x + arg_uses n y
 atom_uses n (Attr a x y) = arg_uses n x + arg_uses n y
 
+-- in how many places of the atoms it stands
 abbrev pub uses : ℕ → List Atom → ℕ
 uses n [] = 0
 uses n (g ∷ gs) = atom_uses n g + uses n gs
 
--- how many places of an argument, of an atom and of atoms have a variable
+-- how many variables the argument is, one or none
 abbrev pub arg_places : Arg → ℕ
 arg_places Blank = 0
 arg_places (Var m) = 1
 arg_places (Constant c) = 0
 
+-- how many places of the atom have a variable
 abbrev pub atom_places : Atom → ℕ
 atom_places (Class a x) = arg_places x
 atom_places (Role a x y) = arg_places x + arg_places y
 atom_places (Attr a x y) = arg_places x + arg_places y
 
+-- how many places of the atoms have a variable
 abbrev pub places : List Atom → ℕ
 places [] = 0
 places (g ∷ gs) = atom_places g + places gs
 
--- the variable becomes `_`
+-- the argument after the variable became `_`
 abbrev pub blank_arg : ℕ → Arg → Arg
 blank_arg n Blank = Blank
 blank_arg n (Var m) = elim (nat_eq m n) [ true ↦ Blank | false ↦ Var m ]
 blank_arg n (Constant c) = Constant c
 
+-- the atom after the variable became `_`
 abbrev pub blank : ℕ → Atom → Atom
 blank n (Class a x) = Class a (blank_arg n x)
 blank n (Role a x y) = Role a (blank_arg n x) (blank_arg n y)
@@ -55,27 +59,30 @@ blank n (Attr a x y) = Attr a (blank_arg n x) (blank_arg n y)
 abbrev pub alone : List Arg → List Atom → ℕ → Bool
 alone answer atoms n = not (has_var answer n) && nat_eq (uses n atoms) 1
 
--- the first variable of an argument, of an atom and of atoms that passes the test
+-- the variable that the argument is, where it passes the test
 abbrev pub first_arg : (ℕ → Bool) → Arg → Option ℕ
 first_arg t Blank = None
 first_arg t (Var n) = elim (t n) [ true ↦ Some n | false ↦ None ]
 first_arg t (Constant c) = None
 
+-- the first variable of the atom that passes the test
 abbrev pub first_atom : (ℕ → Bool) → Atom → Option ℕ
 first_atom t (Class a x) = first_arg t x
 first_atom t (Role a x y) = or_else (first_arg t x) (first_arg t y)
 first_atom t (Attr a x y) = or_else (first_arg t x) (first_arg t y)
 
+-- the first variable of the atoms that passes the test
 abbrev pub first_var : (ℕ → Bool) → List Atom → Option ℕ
 first_var t [] = None
 first_var t (g ∷ gs) = or_else (first_atom t g) (first_var t gs)
 
--- the atom in its place of an ordered list, if it is not there yet
+-- the atom g put into an ordered list that begins with h, where it is told how g compares with h and what g put behind h gives
 abbrev pub insert_by : Ordering → Atom → Atom → List Atom → List Atom → List Atom
 insert_by Less g h hs more = g ∷ h ∷ hs
 insert_by Equal g h hs more = h ∷ hs
 insert_by Greater g h hs more = h ∷ more
 
+-- the atom in its place of an ordered list, if it is not there yet
 abbrev pub put : Atom → List Atom → List Atom
 put g [] = g ∷ []
 put g (h ∷ hs) = insert_by (atom_order g h) g h hs (put g hs)
@@ -89,12 +96,12 @@ in_order (g ∷ gs) = put g (in_order gs)
 abbrev pub without : ℕ → List Atom → List Atom
 without n atoms = in_order (map (blank n) atoms)
 
--- one variable after another becomes `_`, until none is alone, for at most so many
+-- one variable after another becomes `_`, and the atoms are put in order again, until none is alone, for at most so many
 abbrev pub settle : List Arg → ℕ → List Atom → List Atom
 settle answer zero atoms = atoms
 settle answer (suc k) atoms = elim (first_var (alone answer atoms) atoms) [ None ↦ atoms | Some n ↦ settle answer k (without n atoms) ]
 
--- the normal form; each variable that becomes `_` frees a place, so there are no more of them than places
+-- the normal form: each variable that becomes `_` frees a place, so there are no more rounds than places, and at the end nothing changes
 abbrev pub normal_form : Cq → Cq
 normal_form q = record { answer = q.answer; atoms = settle q.answer (places q.atoms) (in_order q.atoms) }
 

@@ -4,7 +4,7 @@ use Rattle.mast_terms.specs.declared.name.Name.{Name}
 use Rattle.mast_cq.specs.declared.atom.Arg.{Arg}
 use Rattle.mast_cq.specs.declared.atom.Atom.{Atom}
 use Rattle.mast_cq.specs.declared.atom.Atom.TheVariants.{Role, Attr}
-use Rattle.mast_cq.specs.Meanings.{Fact, InRole, InAttr, Fits}
+use Rattle.mast_cq.specs.Meanings.{Fact, InRole, InAttr, Fits, Match}
 
 -- a property: a role, the inverse of a role, or an attribute
 pub data Property : Type 0 where
@@ -31,3 +31,12 @@ pub record IsPair {X : Type 0} (constant : ℕ → X) (s : ℕ → X) (p : Prope
   pub is : f ≡ prop_fact p one other
   pub one_fits : Fits constant s x one
   pub other_fits : Fits constant s y other
+
+-- two terms that the arguments may stand for make the atom of the property the fact that they are a pair of it
+abbrev pub PairsAreFacts : {X : Type 0} → (ℕ → X) → Type 0
+PairsAreFacts {X} constant = (s : ℕ → X) (p : Property) (x y : Arg) (t u : X)
+    → Fits constant s x t → Fits constant s y u → Match constant s (prop_atom p x y) (prop_fact p t u)
+
+-- a fact that the atom of the property is, is such a pair
+abbrev pub FactsArePairs : {X : Type 0} → (ℕ → X) → Type 0
+FactsArePairs {X} constant = (s : ℕ → X) (p : Property) (x y : Arg) (f : Fact X) → Match constant s (prop_atom p x y) f → IsPair constant s p x y f

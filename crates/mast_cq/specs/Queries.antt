@@ -1,5 +1,5 @@
 -- Queries: what a view holds, where variables stand, and the orders.
-use Rattle.std.specs.Prelude.{◌≡◌, ℕ, List, [], ◌∷◌, Bool, false, nat_eq, ◌||◌, ◌⊎◌}
+use Rattle.std.specs.Prelude.{◌≡◌, ℕ, List, [], ◌∷◌, Option, Some, None, Bool, true, false, ◌↔◌, nat_eq, ◌||◌, ◌⊎◌}
 use Rattle.std.specs.declared.cmp.Ordering.{Ordering}
 use Rattle.std.specs.Ordering.{nat_cmp, ordering_then}
 use Rattle.std.specs.Cmp.Lexicographic.{slice_cmp}
@@ -13,6 +13,10 @@ use Rattle.mast_cq.specs.declared.query.CqRef.{CqRef}
 -- the query that a view lends
 abbrev pub viewed : CqRef → Cq
 viewed q = record { answer = q.answer.now; atoms = q.atoms.now }
+
+-- a test that holds exactly of views with equal contents
+abbrev pub TestsContents : (CqRef → CqRef → Bool) → Type 0
+TestsContents same = (q r : CqRef) → (same q r ≡ true) ↔ (viewed q ≡ viewed r)
 
 -- x is an element of the list
 abbrev pub In : {X : Type 0} → X → List X → Type 0
@@ -28,6 +32,11 @@ pub data Takes {X : Type 0} : List X → X → List X → Type 0 where
 pub data TakesTwo {X : Type 0} : List X → X → X → List X → Type 0 where
   here : {x y : X} {xs rest : List X} → Takes xs y rest → TakesTwo (x ∷ xs) x y rest
   beyond : {x y z : X} {xs rest : List X} → TakesTwo xs x y rest → TakesTwo (z ∷ xs) x y (z ∷ rest)
+
+-- the first if there is one, else the second
+abbrev pub or_else : {X : Type 0} → Option X → Option X → Option X
+or_else None b = b
+or_else (Some x) b = Some x
 
 -- the variable stands in the list
 abbrev pub has_var : List Arg → ℕ → Bool

@@ -102,6 +102,7 @@ met q i j m = record {
   atoms = slice_set (slice_set (map (replace m.replacement) q.atoms) i m.atom) j m.atom;
 }
 
+-- the query after the meeting of its atoms at two places, where there is one
 abbrev pub met_if : Cq → ℕ → ℕ → Option Meeting → Option Cq
 met_if q i j None = None
 met_if q i j (Some m) = Some (met q i j m)

@@ -1,12 +1,14 @@
 -- What unification means: an assignment that makes two atoms one fact, and the atom that they become.
-use Rattle.std.specs.Prelude.{◌≡◌, ℕ, ◌<◌, List, Option, Some, true, ◌⊎◌}
+use Rattle.std.specs.Prelude.{◌≡◌, ℕ, ◌<◌, List, Option, Some, None, true, ◌⊎◌, ◌↔◌, slice_get}
+use Rattle.std.specs.List.{AllByRecursion}
 use Rattle.mast_cq.specs.declared.atom.Arg.{Arg}
 use Rattle.mast_cq.specs.declared.atom.Arg.TheVariants.{Blank, Var, Constant}
 use Rattle.mast_cq.specs.declared.atom.Atom.{Atom}
 use Rattle.mast_cq.specs.declared.atom.Atom.TheVariants.{Class, Role, Attr}
-use Rattle.mast_cq.specs.Meanings.{Fact, Match, HasTuple}
-use Rattle.mast_cq.specs.Unification.{Replacement, replace, wins, Meeting, unified}
+use Rattle.mast_cq.specs.Meanings.{Fact, Gives, Match, MetBy, HasTuple}
+use Rattle.mast_cq.specs.Unification.{Replacement, replace, wins, Meeting, meeting, unified}
 use Rattle.mast_cq.specs.declared.query.Cq.{Cq}
+use Rattle.mast_cq.specs.NormalForms.{Occurs}
 
 -- the argument is no `_`, and stands for the term
 abbrev pub Stands : {X : Type 0} → (ℕ → X) → (ℕ → X) → Arg → X → Type 0
@@ -25,12 +27,13 @@ pub record Joined {X : Type 0} (constant : ℕ → X) (s : ℕ → X) (f : Fact 
   pub respects : Respects constant s by.replacement
   pub matches : Match constant s by.atom f
 
--- P holds of the constants of an argument, and of an atom
+-- P holds of the constant, where the argument is one
 abbrev pub KnownArg : (ℕ → Type 0) → Arg → Type 0
 KnownArg P Blank = Unit {0}
 KnownArg P (Var x) = Unit {0}
 KnownArg P (Constant c) = P c
 
+-- P holds of the constants of the atom
 abbrev pub KnownAtom : (ℕ → Type 0) → Atom → Type 0
 KnownAtom P (Class a x) = KnownArg P x
 KnownAtom P (Role a x y) = KnownArg P x × KnownArg P y
@@ -69,6 +72,11 @@ IsBelow bound c = c < bound
 abbrev pub AreApart : {X : Type 0} → (ℕ → X) → ℕ → Type 0
 AreApart constant bound = (c d : ℕ) → IsBelow bound c → IsBelow bound d → constant c ≡ constant d → c ≡ d
 
+-- the assignment makes both atoms the fact
+pub record BothAre {X : Type 0} (constant : ℕ → X) (s : ℕ → X) (g h : Atom) (f : Fact X) : Type 0 where
+  pub first : Match constant s g f
+  pub second : Match constant s h f
+
 -- some assignment makes the two atoms one fact
 pub record Unifiable {X : Type 0} (constant : ℕ → X) (g h : Atom) : Type 0 where
   pub under : ℕ → X
@@ -87,3 +95,39 @@ abbrev pub Beats : List Arg → Arg → ℕ → Type 0
 Beats answer Blank n = ⊥
 Beats answer (Var m) n = (m ≡ n) ⊎ (wins answer m n ≡ true)
 Beats answer (Constant c) n = Unit {0}
+
+-- Meetings are complete: two atoms that one fact is under an assignment have a meeting, which the assignment respects and whose atom the
+-- fact is. Different known constants stand for different terms.
+abbrev pub MeetingsAreComplete : {X : Type 0} → (ℕ → X) → Type 0
+MeetingsAreComplete {X} constant = (bound : ℕ) (answer : List Arg) (s : ℕ → X) (g h : Atom) (f : Fact X) → AreApart constant bound
+    → KnownAtom (IsBelow bound) g → KnownAtom (IsBelow bound) h → BothAre constant s g h f → Joined constant s f (meeting answer g h)
+
+-- Unifying is complete: where one fact with P is the atoms at two places under an assignment, and each atom is one, the unified query has
+-- what the query has under it. Different known constants stand for different terms.
+abbrev pub UnifyingIsComplete : {X : Type 0} → (ℕ → X) → (Fact X → Type 0) → Type 0
+UnifyingIsComplete {X} constant P = (bound : ℕ) (q : Cq) (i j : ℕ) (tuple : List X) (g h : Atom) (f : Fact X) (s : ℕ → X) → AreApart constant bound
+    → slice_get q.atoms i ≡ Some g → slice_get q.atoms j ≡ Some h → KnownAtom (IsBelow bound) g → KnownAtom (IsBelow bound) h
+    → BothAre constant s g h f → P f → AllByRecursion (MetBy constant P s) q.atoms → Gives constant s q.answer tuple → UnifiedHas constant P q i j tuple
+
+-- Meetings are sound: a meeting's atom splits back into both atoms.
+abbrev pub MeetingsAreSound : {X : Type 0} → (ℕ → X) → Type 0
+MeetingsAreSound constant = (answer : List Arg) (g h : Atom) (m : Meeting) → meeting answer g h ≡ Some m → Parts constant g h m
+
+-- Unifying is sound: the query has each tuple that the unified query has.
+abbrev pub UnifyingIsSound : {X : Type 0} → (ℕ → X) → (Fact X → Type 0) → Type 0
+UnifyingIsSound {X} constant P =
+    (q r : Cq) (i j : ℕ) (tuple : List X) → unified q i j ≡ Some r → HasTuple constant P r tuple → HasTuple constant P q tuple
+
+-- Two atoms have no meeting exactly where no assignment makes them one fact. Different known constants stand for different terms.
+abbrev pub NoneIsApart : {X : Type 0} → (ℕ → X) → Type 0
+NoneIsApart constant = (bound : ℕ) (answer : List Arg) (g h : Atom) → AreApart constant bound → KnownAtom (IsBelow bound) g
+    → KnownAtom (IsBelow bound) h → (meeting answer g h ≡ None) ↔ (Unifiable constant g h → ⊥)
+
+-- A meeting of the atoms replaces a variable by itself or by what wins over it.
+abbrev pub WinnersStay : List Arg → Atom → Atom → Type 0
+WinnersStay answer g h = (m : Meeting) (n : ℕ) → meeting answer g h ≡ Some m → Beats answer (m.replacement n) n
+
+-- A meeting of the atoms moves no variable that stands in neither.
+abbrev pub OthersStay : List Arg → Atom → Atom → Type 0
+OthersStay answer g h =
+    (m : Meeting) (n : ℕ) → meeting answer g h ≡ Some m → (Occurs n g → ⊥) → (Occurs n h → ⊥) → m.replacement n ≡ Var n

@@ -1,16 +1,24 @@
-//! What the normal form and unification mean, as laws that no code calls.
-ghost use Rattle.std.specs.Prelude.{◌≡◌, ◌≤◌, ℕ, length, List, Some, None, Contains, ◌↔◌, slice_get};
-ghost use Rattle.std.specs.List.{AllByRecursion};
+//! What the normal form, unification and a closure's step mean, as laws that no code calls.
+ghost use Rattle.std.specs.Prelude.{◌≡◌, ◌<◌, ◌≤◌, ◌++◌, ℕ, length, List, ◌↔◌};
+ghost use Rattle.mast_terms.specs.declared.name.NameKind.{NameKind};
 ghost use Rattle.mast_cq.specs.declared.atom.Arg.{Arg};
 ghost use Rattle.mast_cq.specs.declared.atom.Atom.{Atom};
 ghost use Rattle.mast_cq.specs.declared.query.Cq.{Cq};
-ghost use Rattle.mast_cq.specs.Meanings.{Fact, Fits, Gives, Match, MetBy, HasTuple};
-ghost use Rattle.mast_cq.specs.NormalForms.{normal_form, IsNormal, Occurs, Spread};
 ghost use Rattle.mast_cq.specs.ListPlaces.{TwoPlaces};
-ghost use Rattle.mast_cq.specs.Properties.{Property, prop_atom, prop_fact, IsPair};
-ghost use Rattle.mast_cq.specs.Queries.{TakesTwo};
-ghost use Rattle.mast_cq.specs.Unification.{Meeting, meeting, unified};
-ghost use Rattle.mast_cq.specs.UnifierMeanings.{AreApart, Beats, IsBelow, Joined, KnownAtom, Parts, Unifiable, UnifiedHas};
+ghost use Rattle.mast_cq.specs.Meanings.{Fact, SameTuples};
+ghost use Rattle.mast_cq.specs.NormalForms.{normal_form, IsNormal, Spread};
+ghost use Rattle.mast_cq.specs.Origins.{AreFrom, ComesFrom, DrawsFrom, IsStep, KeepsNames, KnownQuery, NamesBelow, SomeAtom, VariablesStayWithin};
+ghost use Rattle.mast_cq.specs.Properties.{PairsAreFacts, FactsArePairs};
+ghost use Rattle.mast_cq.specs.Queries.{In, TakesTwo};
+ghost use Rattle.mast_cq.specs.Sorts.{EachHasOneSort, all_arguments};
+ghost use Rattle.mast_cq.specs.Steps.{StepsAreSound, StepsAreComplete, StepsFollow};
+ghost use Rattle.mast_cq.specs.UnifierMeanings.{MeetingsAreComplete, UnifyingIsComplete, MeetingsAreSound, UnifyingIsSound, NoneIsApart, WinnersStay, OthersStay};
+
+/// Which facts over terms of some kind hold, whatever they are: those of a list, or all that follow from some.
+pub trait Truth<X> {
+    // The fact holds.
+    ghost holds: { Self → Fact X → Type 0 };
+}
 
 /// The normal form is normal: no variable outside the answer list stands in exactly one place, the atoms are in order,
 /// and each stands once. So a variable that stands in an atom is an answer, or stands in a second place. What is normal
@@ -22,48 +30,84 @@ pub fn normal_form_law()
     ensures fewer { (q : Cq) → length (normal_form q).atoms ≤ length q.atoms }
 {}
 
-/// A query and its normal form have the same tuples over the same facts, whatever the constants stand for.
-pub fn normal_meaning_law<X>()
-    ensures { (constant : ℕ → X) (facts : List (Fact X)) (q : Cq) (tuple : List X) → HasTuple constant (Contains facts) q tuple ↔ HasTuple constant (Contains facts) (normal_form q) tuple }
+/// A query and its normal form have the same tuples, whichever facts hold and whatever the constants stand for.
+pub fn normal_meaning_law<X, W: Truth<X>>()
+    ensures { (constant : ℕ → X) (w : W) (q : Cq) → SameTuples constant (W.holds w) q (normal_form q) }
+{}
+
+/// The arguments of a normal form come from the query: each argument but `_` of an atom stands at that place of an atom
+/// of the query of that kind and name, and each atom of the query becomes one so. So known constants stay known, names
+/// stay in range, and sorts stay one.
+pub fn normal_origin_law()
+    ensures comes { (q : Cq) (g : Atom) → In g (normal_form q).atoms → SomeAtom (ComesFrom g) q.atoms }
+    ensures becomes { (q : Cq) (h : Atom) → In h q.atoms → SomeAtom (λ g. ComesFrom g h) (normal_form q).atoms }
+    ensures draws { (q : Cq) → DrawsFrom (normal_form q).atoms q.atoms }
+    ensures known { (bound : ℕ) (q : Cq) → KnownQuery bound q → KnownQuery bound (normal_form q) }
+    ensures names { (sizes : NameKind → ℕ) (q : Cq) → NamesBelow sizes q → NamesBelow sizes (normal_form q) }
+    ensures sorts { (q : Cq) → EachHasOneSort q.atoms → EachHasOneSort (normal_form q).atoms }
 {}
 
 /// Unifying is complete: where one fact is met by both atoms under an assignment, the meeting exists, the assignment
 /// respects its replacement, and the fact is its atom. So the unified query has what the query has under the assignment.
-/// Different constants must stand for different terms.
-pub fn unify_complete_law<X>()
-    ensures meeting { (constant : ℕ → X) (bound : ℕ) (answer : List Arg) (s : ℕ → X) (g h : Atom) (f : Fact X) → AreApart constant bound → KnownAtom (IsBelow bound) g → KnownAtom (IsBelow bound) h → Match constant s g f → Match constant s h f → Joined constant s f (meeting answer g h) }
-    ensures query { (constant : ℕ → X) (bound : ℕ) (facts : List (Fact X)) (q : Cq) (i j : ℕ) (tuple : List X) (g h : Atom) (f : Fact X) (s : ℕ → X) → AreApart constant bound → slice_get q.atoms i ≡ Some g → slice_get q.atoms j ≡ Some h → KnownAtom (IsBelow bound) g → KnownAtom (IsBelow bound) h → Match constant s g f → Match constant s h f → Contains facts f → AllByRecursion (MetBy constant (Contains facts) s) q.atoms → Gives constant s q.answer tuple → UnifiedHas constant (Contains facts) q i j tuple }
+/// The constants of the two atoms must be below a bound, and different constants below it stand for different terms.
+pub fn unify_complete_law<X, W: Truth<X>>()
+    ensures meeting { (constant : ℕ → X) → MeetingsAreComplete constant }
+    ensures query { (constant : ℕ → X) (w : W) → UnifyingIsComplete constant (W.holds w) }
 {}
 
 /// Unifying is sound: a unified atom splits back. No variable becomes `_`, and what the unified atom is under an
 /// assignment, both atoms are after the replacement. So the query has each tuple that the unified query has.
-pub fn unify_sound_law<X>()
-    ensures meeting { (constant : ℕ → X) (answer : List Arg) (g h : Atom) (m : Meeting) → meeting answer g h ≡ Some m → Parts constant g h m }
-    ensures query { (constant : ℕ → X) (facts : List (Fact X)) (q r : Cq) (i j : ℕ) (tuple : List X) → unified q i j ≡ Some r → HasTuple constant (Contains facts) r tuple → HasTuple constant (Contains facts) q tuple }
+pub fn unify_sound_law<X, W: Truth<X>>()
+    ensures meeting { (constant : ℕ → X) → MeetingsAreSound constant }
+    ensures query { (constant : ℕ → X) (w : W) → UnifyingIsSound constant (W.holds w) }
 {}
 
 /// What a variable becomes in a meeting is the variable itself, or wins over it: a constant, or a variable that is an
 /// answer where the other is none, and else one with a lower number.
 pub fn unify_winner_law()
-    ensures { (answer : List Arg) (g h : Atom) (m : Meeting) (n : ℕ) → meeting answer g h ≡ Some m → Beats answer (m.replacement n) n }
+    ensures { (answer : List Arg) (g h : Atom) → WinnersStay answer g h }
 {}
 
-/// A meeting moves no variable but those of its two atoms.
+/// A meeting moves no variable but those of its two atoms, and makes of each of them itself or an argument of the two.
 pub fn unify_moves_law()
-    ensures { (answer : List Arg) (g h : Atom) (m : Meeting) (n : ℕ) → meeting answer g h ≡ Some m → (Occurs n g → ⊥) → (Occurs n h → ⊥) → m.replacement n ≡ Arg.Var n }
+    ensures others { (answer : List Arg) (g h : Atom) → OthersStay answer g h }
+    ensures within { (answer : List Arg) (g h : Atom) → VariablesStayWithin answer g h }
 {}
 
-/// Two atoms do not unify exactly where no assignment makes them one fact, different constants standing for different
-/// terms: they differ in kind or name, or two different constants would have to be equal.
+/// Two atoms do not unify exactly where no assignment makes them one fact: they differ in kind or name, or two different
+/// constants would have to be equal. The constants of the two atoms must be below a bound, and different constants below
+/// it stand for different terms.
 pub fn unify_none_law<X>()
-    ensures { (constant : ℕ → X) (bound : ℕ) (answer : List Arg) (g h : Atom) → AreApart constant bound → KnownAtom (IsBelow bound) g → KnownAtom (IsBelow bound) h → (meeting answer g h ≡ None) ↔ (Unifiable constant g h → ⊥) }
+    ensures { (constant : ℕ → X) → NoneIsApart constant }
+{}
+
+/// A closure's step keeps the meaning, over the query with the met atom in front of the others, in normal form. It is
+/// sound for two atoms that imply those of the query, as the members below them do. It is complete for two that one fact
+/// is, under the premise of `unify_complete_law` on constants, and any meeting that the assignment respects may follow.
+pub fn step_meaning_law<X, W: Truth<X>>()
+    ensures sound { (constant : ℕ → X) (w : W) → StepsAreSound constant (W.holds w) }
+    ensures complete { (constant : ℕ → X) (w : W) → StepsAreComplete constant (W.holds w) }
+    ensures follow { (constant : ℕ → X) (w : W) → StepsFollow constant (W.holds w) }
+{}
+
+/// A closure's step has fewer atoms, and its arguments come from the query: the arguments of its atoms from those of the
+/// atoms, and of its answer list from these and the answer list. So known constants stay known, and names stay in range.
+/// Where each argument has one sort, they come from places of the same sort, and each still has one.
+pub fn step_origin_law()
+    ensures fewer { (q r : Cq) → IsStep q r → length r.atoms < length q.atoms }
+    ensures arguments { (q r : Cq) → IsStep q r → AreFrom (all_arguments r.atoms) (all_arguments q.atoms) }
+    ensures answer { (q r : Cq) → IsStep q r → AreFrom r.answer (q.answer ++ all_arguments q.atoms) }
+    ensures known { (bound : ℕ) (q r : Cq) → IsStep q r → KnownQuery bound q → KnownQuery bound r }
+    ensures names { (sizes : NameKind → ℕ) (q r : Cq) (step : IsStep q r) → KeepsNames sizes q r step }
+    ensures draws { (q r : Cq) → IsStep q r → EachHasOneSort q.atoms → DrawsFrom r.atoms q.atoms }
+    ensures sorts { (q r : Cq) → IsStep q r → EachHasOneSort q.atoms → EachHasOneSort r.atoms }
 {}
 
 /// The atom of a property is a fact under an assignment exactly where the fact is a pair of the property whose terms
 /// the two arguments may stand for.
 pub fn property_law<X>()
-    ensures inward { (constant s : ℕ → X) (p : Property) (x y : Arg) (t u : X) → Fits constant s x t → Fits constant s y u → Match constant s (prop_atom p x y) (prop_fact p t u) }
-    ensures outward { (constant s : ℕ → X) (p : Property) (x y : Arg) (f : Fact X) → Match constant s (prop_atom p x y) f → IsPair constant s p x y f }
+    ensures inward { (constant : ℕ → X) → PairsAreFacts constant }
+    ensures outward { (constant : ℕ → X) → FactsArePairs constant }
 {}
 
 /// Two atoms are taken out of a list in this order exactly where they stand at two places, the first before the second.

@@ -2,8 +2,7 @@
 ghost use Rattle.std.specs.Prelude.{◌≡◌, ◌≤◌, [], nat_eq, IfOk, OnOk};
 ghost use Rattle.mast_cq.specs.Queries.{viewed};
 ghost use Rattle.mast_cq.specs.NormalForms.{normal_form, settle as settle_of, places, in_order, put as put_of, blank as blank_of, blank_arg as blank_arg_of, alone as alone_of, uses, atom_uses, arg_uses, first_var, first_atom, first_arg};
-ghost use Rattle.mast_cq.specs.Sorts.{or_else};
-ghost use Rattle.mast_cq.specs.Blanks.{blank_if, blanked_all, IsPlace};
+ghost use Rattle.mast_cq.specs.inside.Blanks.{blank_if, blanked_all, first_of_two, IsPlace};
 
 use crate::atom::atom_laws;
 use crate::unifier::has_var;
@@ -13,8 +12,9 @@ use std::alloc::Global;
 use std::cmp::Ordering;
 use std::mem;
 
-/// The normal form of a query: each variable that stands once in the atoms and not in the answer list becomes `_`, the
-/// atoms are ordered, and each stands once.
+/// The normal form of a query: a variable that stands in one place of the atoms and not in the answer list becomes `_`,
+/// the atoms are ordered, and a repeated one is dropped, until nothing changes. A dropped atom can leave another variable
+/// in one place, so that it becomes `_` too: `R(x,y), R(x,z)` becomes `R(_,_)`.
 ///
 /// It takes memory for its result, and for one buffer of the atoms.
 pub fn norm(alloc: Global, query: CqRef) -> Result<Cq, NoMemory>
@@ -161,7 +161,7 @@ fn alone_of_atom(answer: &[Arg], atoms: &[Atom], atom: Atom) -> Option<u32>
 }
 
 fn alone_of_two(answer: &[Arg], atoms: &[Atom], x: Arg, y: Arg) -> Option<u32>
-    ensures { result ≡ or_else (first_arg (alone_of answer.now atoms.now) x) (first_arg (alone_of answer.now atoms.now) y) }
+    ensures { result ≡ first_of_two (alone_of answer.now atoms.now) x y }
 {
     match alone_arg(answer, atoms, x) {
         Some(var) => Some(var),

@@ -1,6 +1,8 @@
 //! Which arguments stand for objects and which for values, and the first that stands for both.
-ghost use Rattle.std.specs.Prelude.{◌≡◌, [], ◌∷◌, MatchOption};
-ghost use Rattle.mast_cq.specs.Sorts.{EachHasOneSort, IsSortBreach, objects_of, values_of, arguments_of, same_arg, stands, stands_in, clashes as clashes_in, first_where, first_in};
+ghost use Rattle.std.specs.Prelude.{◌≡◌, List, [], ◌∷◌};
+ghost use Rattle.mast_cq.specs.declared.atom.Atom.{Atom};
+ghost use Rattle.mast_cq.specs.Sorts.{IsSortAnswer, HasSortAnswer, HasOneSortAnswer, objects_of, values_of, arguments_of};
+ghost use Rattle.mast_cq.specs.inside.SortTests.{same_arg, stands, stands_in, clashes as clashes_in, first_where, first_in};
 
 use crate::{Arg, Atom, CqRef};
 
@@ -14,13 +16,19 @@ pub struct SortClash {
 /// The sort breach of a query: of its arguments that clash, the one whose first place comes first. None exactly where
 /// each argument other than `_` has one sort. The answer list plays no part.
 pub fn sort_breach(query: CqRef) -> Option<SortClash>
-    ensures { MatchOption result (EachHasOneSort query.entry.atoms.now) (λ clash. IsSortBreach query.entry.atoms.now clash.arg) }
+    ensures { IsSortAnswer query.entry.atoms.now result }
 {
     match first_clash(query.atoms) {
         None => None,
         Some(arg) => Some(SortClash { arg }),
     }
 }
+
+/// There is a sort breach or each argument has one sort, and not both; and there is one sort breach at most.
+pub fn sort_breach_law()
+    ensures some { (atoms : List Atom) → HasSortAnswer atoms }
+    ensures one { (atoms : List Atom) → HasOneSortAnswer atoms }
+{}
 
 fn first_clash(atoms: &[Atom]) -> Option<Arg>
     ensures { result ≡ first_in (clashes_in atoms.now) atoms.now }

@@ -1,10 +1,9 @@
 //! What two atoms become where they meet, and the query in which two of its atoms are unified.
 ghost use Rattle.std.specs.Prelude.{◌≡◌, ◌≢◌, ◌<◌, ℕ, length, map, IfOk};
 ghost use Rattle.mast_cq.specs.Queries.{viewed, has_var as has_var_of};
-ghost use Rattle.mast_cq.specs.Unification.{wins as wins_of, unify_args as unify_args_of, replace_arg as replace_arg_of, replace as replace_of, fuller as fuller_of, meeting, meeting_of_one, meeting_of_pairs, unified};
-ghost use Rattle.mast_cq.specs.Meetings.{binding_of, replacement_of, bindings_of, both_pairs, unified_of, meeting_of, pair_meeting_of};
-ghost use Rattle.mast_cq.specs.declared.atom.Arg.{Arg};
-ghost use Rattle.mast_cq.specs.declared.atom.Atom.{Atom};
+ghost use Rattle.mast_cq.specs.Unification.{wins as wins_of, unify_args as unify_args_of, replace_arg as replace_arg_of, replace as replace_of, fuller as fuller_of, meeting, meeting_of_one, unified};
+ghost use Rattle.mast_cq.specs.Meetings.{binding_of, replacement_of, meeting_of};
+ghost use Rattle.mast_cq.specs.inside.PairMeetings.{bindings_of, both_pairs, unified_of, pairs_meet, PairsMeet};
 ghost use Rattle.mast_cq.specs.declared.atom.Atom.TheVariants as atoms;
 
 use crate::{Arg, Atom, Cq, CqRef};
@@ -30,6 +29,10 @@ pub struct Bindings {
 }
 
 /// The meeting of two atoms: a replacement, and the one atom that both become, to which it was applied.
+///
+/// `==` compares the bindings as they are written. Equal values are one meeting, but one meeting may have several values:
+/// two replacements are one where they replace each variable alike, and the bindings of such can differ, as where a
+/// variable that met itself is bound to itself, or where the one binding stands in the second place.
 #[derive(Clone, Copy, Debug, PartialEq, Eq)]
 pub struct Met {
     /// The replacement.
@@ -78,7 +81,8 @@ impl Bindings {
 }
 
 /// The query in which the atoms at two places are unified: both have become the unified atom, and the replacement was
-/// applied to the other atoms and to the answer list. None exactly where the two atoms differ in kind or name, or would
+/// applied to the other atoms and to the answer list. No atom is dropped, and each keeps its place; it is the normal form
+/// that drops the copy. None exactly where the two atoms differ in kind or name, or would
 /// make two different constants equal.
 pub fn unify(
     alloc: Global,
@@ -202,7 +206,7 @@ fn meet_classes(answer: &[Arg], name: Name, x: Arg, z: Arg) -> Option<Met>
 }
 
 fn meet_roles(answer: &[Arg], name: Name, x: Arg, y: Arg, z: Arg, w: Arg) -> Option<Met>
-    ensures { meeting_of result ≡ meeting_of_pairs answer.now (atoms.Role name) x y z w (unify_args_of answer.now x z) }
+    ensures { meeting_of result ≡ pairs_meet answer.now (atoms.Role name) x y z w }
 {
     match meet_pairs(answer, x, y, z, w) {
         None => None,
@@ -218,7 +222,7 @@ fn meet_roles(answer: &[Arg], name: Name, x: Arg, y: Arg, z: Arg, w: Arg) -> Opt
 }
 
 fn meet_attrs(answer: &[Arg], name: Name, x: Arg, y: Arg, z: Arg, w: Arg) -> Option<Met>
-    ensures { meeting_of result ≡ meeting_of_pairs answer.now (atoms.Attr name) x y z w (unify_args_of answer.now x z) }
+    ensures { meeting_of result ≡ pairs_meet answer.now (atoms.Attr name) x y z w }
 {
     match meet_pairs(answer, x, y, z, w) {
         None => None,
@@ -235,7 +239,7 @@ fn meet_attrs(answer: &[Arg], name: Name, x: Arg, y: Arg, z: Arg, w: Arg) -> Opt
 
 // What stands at the two places of atoms whose arguments are (x, y) and (z, w).
 fn meet_pairs(answer: &[Arg], x: Arg, y: Arg, z: Arg, w: Arg) -> Option<MetPair>
-    ensures { (form : Arg → Arg → Atom) → pair_meeting_of form result ≡ meeting_of_pairs answer.now form x y z w (unify_args_of answer.now x z) }
+    ensures { PairsMeet answer.now x y z w result }
 {
     match unify_pairs(answer, x, y, z, w) {
         None => None,

@@ -1,6 +1,6 @@
 use Rattle.std.proofs.Common.{◌≡◌, ◌≤◌, drop, length}
 use Rattle.mast_cq.specs.NormalForms.{in_order}
-use Rattle.mast_cq.specs.Blanks.{blanked_all}
+use Rattle.mast_cq.specs.inside.Blanks.{blanked_all}
 use Rattle.mast_cq.proofs.normal_form.order_into.Given as goal
 
 abbrev pub invariant-loop-left : goal.invariant-loop-left

@@ -1,5 +1,5 @@
 use Rattle.std.proofs.Common.{◌≡◌, drop}
-use Rattle.mast_cq.specs.Sorts.{clashes, first_in}
+use Rattle.mast_cq.specs.inside.SortTests.{clashes, first_in}
 use Rattle.mast_cq.proofs.sorts.first_clash.Given as goal
 
 abbrev pub invariant-loop-atom : goal.invariant-loop-atom

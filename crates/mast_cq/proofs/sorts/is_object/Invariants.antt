@@ -1,5 +1,6 @@
 use Rattle.std.proofs.Common.{◌≡◌, drop}
-use Rattle.mast_cq.specs.Sorts.{objects_of, stands_in}
+use Rattle.mast_cq.specs.Sorts.{objects_of}
+use Rattle.mast_cq.specs.inside.SortTests.{stands_in}
 use Rattle.mast_cq.proofs.sorts.is_object.Given as goal
 
 abbrev pub invariant-loop-atom : goal.invariant-loop-atom

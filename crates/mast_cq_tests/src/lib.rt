@@ -1,7 +1,8 @@
-//! Worked queries, with what they become.
+//! Tests of mast_cq: worked queries, with what they become, and that calls succeed where memory is there.
+#![tactic(auto)]
 
-use crate::{Arg, Atom, CqRef, SortClash, norm, sort_breach, unify};
 use indexmap::IndexSet;
+use mast_cq::{Arg, Atom, CqRef, SortClash, norm, sort_breach, unify};
 use mast_terms::Name;
 use std::alloc::Global;
 use std::process::Abort;
