@@ -45,7 +45,8 @@ pair_ends (IAttr u v) p q g = let e = only_one (PAttr u, PAttr v) (p, q) g in (
 )
 pair_ends (Range u kind) p q g = absurd (none (p, q) g)
 
-leads_ends : (tbox : List Inclusion) (p q : Prop) → Leads tbox p q → Contains (all_ends tbox) p × Contains (all_ends tbox) q
+-- what an inclusion leads from and to is one of the ends
+pub leads_ends : (tbox : List Inclusion) (p q : Prop) → Leads tbox p q → Contains (all_ends tbox) p × Contains (all_ends tbox) q
 leads_ends tbox p q l =
     let w = leads_pair tbox p q l in
     let e = pair_ends w.inclusion p q w.gives in

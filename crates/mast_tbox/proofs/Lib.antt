@@ -11,4 +11,10 @@ pub mod NoteLemmas
 pub mod ComponentLemmas
 pub mod RoundLemmas
 pub mod JudgeLemmas
+pub mod ThroughLemmas
 pub mod DecideLemmas
+pub mod ArgumentLemmas
+pub mod RangeLemmas
+pub mod OrderLemmas
+pub mod StatedLemmas
+pub mod OneBreachLemmas

@@ -26,7 +26,7 @@ pair_inverse (Direct p) x y = refl
 pair_inverse (Inverse p) x y = refl
 
 -- the subjects of a property are the firsts of its pairs
-at_subjects : (p : Prop) (x : Arg) → at (subjects p) x ≡ pair p x Blank
+pub at_subjects : (p : Prop) (x : Arg) → at (subjects p) x ≡ pair p x Blank
 at_subjects (PRole r) x = refl
 at_subjects (PAttr u) x = refl
 

@@ -11,9 +11,13 @@ use Rattle.mast_tbox.specs.declared.axiom.Inclusion.TheVariants.{Class as IClass
 use Rattle.mast_tbox.specs.Expressions.{inverse_role, inverse, subjects, same_basic, same_prop}
 use Rattle.mast_tbox.specs.Lists.{once}
 
+-- the number of the name of the first auxiliary role; the names of documents are below it
+abbrev pub first_auxiliary : ℕ
+first_auxiliary = 65536
+
 -- the auxiliary role of a number
 abbrev pub auxiliary : ℕ → Name
-auxiliary k = record { 0 = 65536 + k }
+auxiliary k = record { 0 = first_auxiliary + k }
 
 -- what stands for one inclusion: a qualified one becomes three over its auxiliary role, and a range says nothing
 abbrev pub normal_of : Inclusion → List Inclusion

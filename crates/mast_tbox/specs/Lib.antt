@@ -3,6 +3,8 @@ pub mod Inclusions
 pub mod Lists
 pub mod Groups
 pub mod Numbers
+pub mod Names
+pub mod Arguments
 pub mod Closure
 pub mod Properties
 pub mod Components

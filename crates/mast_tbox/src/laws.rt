@@ -1,27 +1,27 @@
 //! What numbers, properties and the closure of an atom are, as laws that no code calls.
-ghost use Rattle.std.specs.Prelude.{◌≡◌, ℕ, Bool, true, None, Option, List, [], ◌∷◌, Contains, ◌↔◌, ◌⊎◌};
-ghost use Rattle.mast_terms.specs.declared.name.Name.{Name};
+ghost use Rattle.std.specs.Prelude.{List, Contains, ◌↔◌};
 ghost use Rattle.mast_cq.specs.declared.atom.Atom.{Atom};
-ghost use Rattle.mast_tbox.specs.Closure.{Down};
+ghost use Rattle.mast_tbox.specs.Closure.{AtomStep, Down};
 ghost use Rattle.mast_tbox.specs.Expressions.{inverse};
 ghost use Rattle.mast_tbox.specs.Inclusions.{normal as normal_inclusions, directly_below, IsDirectlyBelow};
-ghost use Rattle.mast_tbox.specs.Laws.{Has, IsClosed};
-ghost use Rattle.mast_tbox.specs.Lists.{items};
-ghost use Rattle.mast_tbox.specs.Numbers.{IsNumbered, number_of};
+ghost use Rattle.mast_tbox.specs.Laws.{Decided, IsDecided, IsReflexive, IsTransitive, IsSymmetric, IsKeptBy, IsFinite, HasOneAnswer, NumbersDiffer, HasNoEnd, IsClosed, IsLeast, KeepsArguments, KeepsVariables, KeepsTwice, KeepsSorts, KeepsRange, BelowAgrees, EquivalentAgrees, SpecialisedAgrees};
+ghost use Rattle.mast_tbox.specs.Lists.{Reaches, items};
+ghost use Rattle.mast_tbox.specs.Names.{AreInRange};
+ghost use Rattle.mast_tbox.specs.Numbers.{IsNumbered};
 ghost use Rattle.mast_tbox.specs.Properties.{IsBelow, AreEquivalent};
+ghost use Rattle.mast_tbox.specs.Restrictions.{IsSpecialised, IsRestrictionBreach};
 ghost use Rattle.mast_tbox.specs.declared.expression.Basic.{Basic};
 ghost use Rattle.mast_tbox.specs.declared.expression.Prop.{Prop};
-ghost use Rattle.mast_tbox.specs.declared.expression.RoleExpr.{RoleExpr};
 ghost use Rattle.mast_tbox.specs.declared.axiom.Inclusion.{Inclusion};
-ghost use Rattle.mast_tbox.specs.declared.axiom.Inclusion.TheVariants.{Exists};
 ghost use Rattle.mast_tbox.specs.declared.axiom.Lined.{Lined};
+ghost use Rattle.mast_tbox.specs.declared.constraint.Constraint.{Constraint};
 
 /// Each number is of one inclusion, among the inclusions of a TBox and among its normal ones. A normal inclusion that adds
 /// a filler says nothing of its class.
 pub fn number_law()
-    ensures stated { (lines : List (Lined Inclusion)) (i j : Inclusion) (k : ℕ) → IsNumbered lines → Contains (items lines) i → Contains (items lines) j → number_of i ≡ k ∷ [] → number_of j ≡ k ∷ [] → i ≡ j }
-    ensures normal { (lines : List (Lined Inclusion)) (i j : Inclusion) (k : ℕ) → IsNumbered lines → Contains (normal_inclusions (items lines)) i → Contains (normal_inclusions (items lines)) j → number_of i ≡ k ∷ [] → number_of j ≡ k ∷ [] → i ≡ j }
-    ensures end { (tbox : List Inclusion) (b : Basic) (r : RoleExpr) (end : Option Name) (k : ℕ) → Contains (normal_inclusions tbox) (Exists b r end k) → end ≡ None }
+    ensures stated { (lines : List (Lined Inclusion)) → IsNumbered lines → NumbersDiffer (items lines) }
+    ensures normal { (lines : List (Lined Inclusion)) → IsNumbered lines → NumbersDiffer (normal_inclusions (items lines)) }
+    ensures end { (tbox : List Inclusion) → HasNoEnd (normal_inclusions tbox) }
 {}
 
 /// The list of the basic concepts directly below one has exactly these.
@@ -29,23 +29,58 @@ pub fn below_law()
     ensures { (tbox : List Inclusion) (b c : Basic) → Contains (directly_below tbox b) c ↔ IsDirectlyBelow tbox c b }
 {}
 
-/// `Down` of an atom holds the atom, is closed under the steps by inclusions, and is the least such set. Whether an atom
-/// stands in it is decided.
+/// `Down` of an atom holds the atom, is closed under the steps by inclusions, and is the least such set among those that a
+/// test gives. Whether an atom stands in it is decided, and a list has exactly its members.
 pub fn down_law()
-    ensures itself { (tbox : List Inclusion) (g : Atom) → Down tbox g g }
+    ensures itself { (tbox : List Inclusion) → IsReflexive (Down tbox) }
     ensures closed { (tbox : List Inclusion) (g : Atom) → IsClosed tbox (Down tbox g) }
-    ensures least { (tbox : List Inclusion) (g h : Atom) (set : Atom → Bool) → set g ≡ true → IsClosed tbox (Has set) → Down tbox g h → set h ≡ true }
-    ensures joined { (tbox : List Inclusion) (g h i : Atom) → Down tbox g h → Down tbox h i → Down tbox g i }
-    ensures decided { (tbox : List Inclusion) (g h : Atom) → Down tbox g h ⊎ (Down tbox g h → ⊥) }
+    ensures least { (tbox : List Inclusion) (g : Atom) → IsLeast tbox g }
+    ensures joined { (tbox : List Inclusion) → IsTransitive (Down tbox) }
+    ensures decided { (tbox : List Inclusion) → IsDecided (Down tbox) }
+    ensures finite { (tbox : List Inclusion) (g : Atom) → IsFinite (Down tbox g) }
+{}
+
+/// What `Down` keeps of an atom: its arguments, but for `_`, each with its sort; the variables that occur in it and that
+/// stand in both its places; that each argument of a query has one sort; and names in range.
+pub fn member_law()
+    ensures arguments { (tbox : List Inclusion) → KeepsArguments tbox }
+    ensures variables { (tbox : List Inclusion) → KeepsVariables tbox }
+    ensures twice { (tbox : List Inclusion) → KeepsTwice tbox }
+    ensures sorts { (tbox : List Inclusion) → KeepsSorts tbox }
+    ensures range { (tbox : List Inclusion) → AreInRange tbox → KeepsRange tbox }
 {}
 
 /// Being below is reflexive and transitive and goes over to inverses. So being equivalent is, and it is symmetric.
 pub fn property_order_law()
-    ensures below_itself { (tbox : List Inclusion) (p : Prop) → IsBelow tbox p p }
-    ensures below_joined { (tbox : List Inclusion) (p q r : Prop) → IsBelow tbox p q → IsBelow tbox q r → IsBelow tbox p r }
-    ensures below_inverse { (tbox : List Inclusion) (p q : Prop) → IsBelow tbox p q → IsBelow tbox (inverse p) (inverse q) }
-    ensures itself { (tbox : List Inclusion) (p : Prop) → AreEquivalent tbox p p }
-    ensures turned { (tbox : List Inclusion) (p q : Prop) → AreEquivalent tbox p q → AreEquivalent tbox q p }
-    ensures joined { (tbox : List Inclusion) (p q r : Prop) → AreEquivalent tbox p q → AreEquivalent tbox q r → AreEquivalent tbox p r }
-    ensures inverses { (tbox : List Inclusion) (p q : Prop) → AreEquivalent tbox p q → AreEquivalent tbox (inverse p) (inverse q) }
+    ensures below_itself { (tbox : List Inclusion) → IsReflexive (IsBelow tbox) }
+    ensures below_joined { (tbox : List Inclusion) → IsTransitive (IsBelow tbox) }
+    ensures below_inverse { (tbox : List Inclusion) → IsKeptBy inverse (IsBelow tbox) }
+    ensures itself { (tbox : List Inclusion) → IsReflexive (AreEquivalent tbox) }
+    ensures turned { (tbox : List Inclusion) → IsSymmetric (AreEquivalent tbox) }
+    ensures joined { (tbox : List Inclusion) → IsTransitive (AreEquivalent tbox) }
+    ensures inverses { (tbox : List Inclusion) → IsKeptBy inverse (AreEquivalent tbox) }
+{}
+
+/// It is decided whether a step leads from an atom to another, whether a basic concept is directly below another and
+/// whether it is reached by what is directly below, and whether a property is below another, equivalent to it, and
+/// specialised.
+pub fn decided_law()
+    ensures step { (tbox : List Inclusion) → IsDecided (AtomStep tbox) }
+    ensures directly { (tbox : List Inclusion) → IsDecided (IsDirectlyBelow tbox) }
+    ensures reached { (tbox : List Inclusion) → IsDecided (Reaches (IsDirectlyBelow tbox)) }
+    ensures below { (tbox : List Inclusion) → IsDecided (IsBelow tbox) }
+    ensures equivalent { (tbox : List Inclusion) → IsDecided (AreEquivalent tbox) }
+    ensures specialised { (tbox : List Inclusion) (p : Prop) → Decided (IsSpecialised tbox p) }
+{}
+
+/// For names in range, being below, equivalent and specialised by the normal inclusions is that by the stated ones.
+pub fn stated_law()
+    ensures below { (tbox : List Inclusion) → AreInRange tbox → BelowAgrees tbox }
+    ensures equivalent { (tbox : List Inclusion) → AreInRange tbox → EquivalentAgrees tbox }
+    ensures specialised { (tbox : List Inclusion) → AreInRange tbox → SpecialisedAgrees tbox }
+{}
+
+/// Axioms and constraints have one restriction breach, or none: there always is such an answer, and no other.
+pub fn one_breach_law()
+    ensures { (inclusions : List (Lined Inclusion)) (functional : List (Lined Prop)) (constraints : List (Lined Constraint)) → HasOneAnswer (IsRestrictionBreach inclusions functional constraints) }
 {}

@@ -19,7 +19,10 @@ mod tbox;
 pub use axiom::{Inclusion, Lined, Negative};
 pub use constraint::{Constraint, Constraints, Step};
 pub use expression::{Basic, Prop, RoleExpr, basic_laws, prop_laws};
-pub use laws::{below_law, down_law, number_law, property_order_law};
+pub use laws::{
+    below_law, decided_law, down_law, member_law, number_law, one_breach_law, property_order_law,
+    stated_law,
+};
 pub use normal_inclusions::{NormalTBox, normal};
 pub use restriction::{RestrictionBreach, RestrictionKind, restriction_breach};
 pub use tbox::{Ontology, TBox};

@@ -2,4 +2,8 @@ use Rattle.mast_tbox.proofs.NumberLemmas.{one_inclusion, one_normal_inclusion, n
 use Rattle.mast_tbox.proofs.laws.number_law.Goals as goal
 
 pub returns : goal.returns
-returns c = record { stated = one_inclusion; normal = one_normal_inclusion; end = no_end }
+returns c = record {
+  stated = λ lines n i j k. one_inclusion lines i j k n;
+  normal = λ lines n i j k. one_normal_inclusion lines i j k n;
+  end = no_end;
+}
