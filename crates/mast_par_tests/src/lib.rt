@@ -1,4 +1,4 @@
-//! Tests of mast_par: that pieces run side by side, that each is asked once, and that callers can say what the answers are.
+//! Tests of mast_par: pieces run side by side, each is asked once, and callers can say what the answers are.
 #![tactic(auto)]
 
 ghost use Rattle.std.specs.Prelude.{◌≡◌, ◌*◌, ◌<◌, All, IfOk, length, map, slice_index_or};

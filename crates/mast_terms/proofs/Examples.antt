@@ -3,9 +3,8 @@ use Rattle.std.specs.Prelude.{◌≡◌, ◌∷◌, [], pos, negsuc, Some, None,
 use Rattle.mast_terms.specs.Calendar.{IsDay}
 use Rattle.mast_terms.specs.DateCell.{IsDateText}
 use Rattle.mast_terms.specs.IntegerCell.{integer_of}
-use Rattle.mast_terms.specs.Printed.{number_text, date_text, value_text, term_text}
+use Rattle.mast_terms.specs.Printed.{number_text, value_text, term_text}
 use Rattle.mast_terms.specs.declared.date.Date.{Date}
-use Rattle.mast_terms.specs.declared.term.Object.{Object}
 use Rattle.mast_terms.specs.declared.term.Term.TheVariants as t
 use Rattle.mast_terms.specs.declared.value.Value.TheVariants as v
 use Rattle.std.proofs.Common.{arith}

@@ -1,7 +1,7 @@
 -- What a hasher is fed tells numbers, texts and lists, and what is made of them.
 use mir.Val.{of_z, to_z}
-use Rattle.std.proofs.Common.{◌≡◌, ℕ, ℤ, pos, ◌<◌, ◌^◌, true, List, [], ◌∷◌, ◌++◌, length, refl, ap, sym, ◌∙◌, arith, FitsSigned, w16, w32, w64}
-use Rattle.std.proofs.Math.Utf8.{scalar, scalars, encode, encodes, scalar_fits, scalar_cases}
+use Rattle.std.proofs.Common.{◌≡◌, ℕ, pos, ◌<◌, ◌^◌, true, List, [], ◌∷◌, ◌++◌, length, refl, ap, sym, ◌∙◌, arith, FitsSigned, w16, w32, w64}
+use Rattle.std.proofs.Math.Utf8.{scalar, scalars, encode, encodes, scalar_cases}
 use Rattle.std.proofs.Math.Facts.{Fits-of_z}
 use Rattle.std.proofs.lemmas.Bool.{and_parts}
 use Rattle.std.proofs.lemmas.Grind.{flat_map-append}

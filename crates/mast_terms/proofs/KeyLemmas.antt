@@ -1,16 +1,13 @@
 -- What a hasher is fed tells names, kinds, dates, values, objects, terms and tuples.
-use Rattle.std.proofs.Common.{◌≡◌, ℕ, ℤ, pos, ◌<◌, ◌≤◌, ◌^◌, List, ◌++◌, refl, ap, arith}
+use Rattle.std.proofs.Common.{◌≡◌, ℕ, ℤ, pos, ◌<◌, ◌^◌, List, ◌++◌, refl, ap, arith}
 use Rattle.std.specs.Hash as fed
 use Rattle.std.specs.Hash.{HashWrites}
-use Rattle.std.specs.Prelude.{IsUtf8}
-use Rattle.mast_terms.specs.Hashes.{fed_bytes, IsTold, TellsApart, FitsAlways, FitsName, FitsValue, FitsList, FitsObject, FitsTerm, TellsLists}
+use Rattle.mast_terms.specs.Hashes.{fed_bytes, TellsApart, FitsAlways, FitsName, FitsValue, FitsList, FitsObject, FitsTerm}
 use Rattle.mast_terms.specs.Orders.{name_kind_place, kind_place}
 use Rattle.mast_terms.specs.declared.date.Date.{Date}
-use Rattle.mast_terms.specs.declared.name.Name.{Name}
 use Rattle.mast_terms.specs.declared.name.NameKind.{NameKind}
 use Rattle.mast_terms.specs.declared.name.NameKind.TheVariants as nk
 use Rattle.mast_terms.specs.declared.term.Object.{Object}
-use Rattle.mast_terms.specs.declared.term.Term.{Term}
 use Rattle.mast_terms.specs.declared.term.Term.TheVariants as t
 use Rattle.mast_terms.specs.declared.value.Kind.{Kind}
 use Rattle.mast_terms.specs.declared.value.Kind.TheVariants as k

@@ -1,4 +1,4 @@
--- The order of terms: a value before an object; an integer before a text before a date; texts by bytes; objects by symbol and then by arguments.
+-- The orders of names, kinds, dates, values, objects, terms and tuples, and what makes a comparison lawful.
 use Rattle.std.specs.Prelude.{◌≡◌, ◌↔◌, ℕ, List, true, Bool}
 use Rattle.std.specs.Cmp.{IsTotalOrder}
 use Rattle.std.specs.Cmp.Lexicographic.{slice_cmp}

@@ -10,8 +10,8 @@ ghost use Rattle.mast_terms.specs.Orders.{object_order, term_order, tuple_order,
 use crate::{Args, Date, Kind, List, Name, NameKind, Object, Term, Text, Value};
 use std::hash::Hash;
 
-/// Laws of names and of both kinds of kinds: `==` holds exactly of equal ones, `cmp` is their order, in which only equal
-/// ones tie, and what a hasher is fed tells them apart.
+/// Laws of names and of both kinds of kinds: `==` holds exactly of equal ones, `cmp` is their order, in which only
+/// equal ones tie, and what a hasher is fed tells them apart.
 pub fn names_are_ordered()
     ensures equality { TestsEquality ⟦<Name as PartialEq>⟧.eq }
     ensures compares { ComparesBy name_order ⟦<Name as Ord>⟧.cmp }

@@ -60,7 +60,8 @@ impl Vocabulary {
     /// The number of an IRI as a name of a kind. One that is there keeps its number, and a new one takes the next.
     ///
     /// `TwoKinds` comes exactly where the IRI is to be a role and stands as an attribute, or the other way; else `Full`
-    /// comes exactly where it is new and 65,535 of the kind stand. A refused call, and one without memory, changes nothing.
+    /// comes exactly where it is new and 65,535 of the kind stand. A refused call, and one without memory, changes
+    /// nothing.
     pub fn add(
         &mut self,
         alloc: Global,

@@ -26,10 +26,11 @@ dashed number = hyphen ∷ two_digits number
 abbrev pub least_in_century : ℕ → ℕ
 least_in_century century = if century == 0 then 1 else 0
 
--- the bytes begin with none of these numbers, as `shown` shows it; the longest front that begins one has the length `at`
+-- the bytes begin with none of these numbers, as `shown` shows it; `at` is the length of the longest front that begins one
 pub record NotShown (shown : ℕ → List ℕ) (least most : ℕ) (bytes : List ℕ) (at : ℕ) : Type 0 where
   pub within : at ≤ length bytes
-  pub begins : (number : ℕ) × (least ≤ number) × (number ≤ most) × (more : List ℕ) × (take at bytes ++ more ≡ shown number)
+  pub begins :
+      (number : ℕ) × (least ≤ number) × (number ≤ most) × (more : List ℕ) × (take at bytes ++ more ≡ shown number)
   pub short : (number : ℕ) (more : List ℕ) → least ≤ number → number ≤ most → bytes ≡ shown number ++ more → ⊥
   pub longest :
       (n number : ℕ) (more rest : List ℕ) → n ≤ length bytes → least ≤ number → number ≤ most

@@ -7,7 +7,9 @@ use Rattle.mast_terms.specs.IntegerCell.{is_digit, magnitude}
 abbrev pub read_digits : ℕ → ℕ → ℕ → List ℕ → Result ℕ ℕ
 read_digits most at size [] = Ok size
 read_digits most at size (b ∷ bs) =
-    if is_digit b && nat_le (size * 10 + (b - digit_zero)) most then read_digits most (at + 1) (size * 10 + (b - digit_zero)) bs else Err at
+    if is_digit b && nat_le (size * 10 + (b - digit_zero)) most
+    then read_digits most (at + 1) (size * 10 + (b - digit_zero)) bs
+    else Err at
 
 -- reads one digit or more
 abbrev pub read_all_digits : ℕ → List ℕ → Result ℕ ℕ
