@@ -52,6 +52,7 @@ module _ {X : Type 0} (f : Inclusion → List (X × X)) where
     | inr a ↦ let w = pairs_from is p a in record { inclusion = w.inclusion; stands = later w.inclusion i is w.stands; gives = w.gives }
   ]
 
+  -- what one inclusion gives is among the pairs of all
   pub pairs_has : (tbox : List Inclusion) (i : Inclusion) (p : X × X) → Contains tbox i → Contains (f i) p → Contains (pairs f tbox) p
   pairs_has [] i p c g = absurd (none i c)
   pairs_has (j ∷ is) i p c g = elim (first_or j is i c) [
@@ -95,6 +96,7 @@ module _ (tbox : List Inclusion) where
   inverse_pair (PAttr u) (PRole s) c = absurd c
   inverse_pair (PAttr u) (PAttr v) c = record { inclusion = IAttr u v; stands = c; gives = front (PAttr u, PAttr v) [] }
 
+  -- the inclusion that leads from one property to another, among its pairs
   pub leads_pair : (p q : Prop) → Leads tbox p q → PairOf prop_pairs tbox (p, q)
   leads_pair p q (inl s) = states_pair p q s
   leads_pair p q (inr s) = inverse_pair p q s
@@ -140,6 +142,7 @@ module _ (tbox : List Inclusion) where
   subject_pairs (IAttr u v) p q g = subst (λ w. Contains (concept_pairs (IAttr u v)) (subjects w.0, subjects w.1)) (sym (only_one (PAttr u, PAttr v) (p, q) g)) (front (Subjects u, Subjects v) [])
   subject_pairs (Range u kind) p q g = absurd (none (p, q) g)
 
+  -- the inclusion that puts a basic concept directly below another, among its pairs
   pub directly_pair : (c b : Basic) → IsDirectlyBelow tbox c b → PairOf concept_pairs tbox (c, b)
   directly_pair c b (IsDirectlyBelow.by_class a s e) = subst (λ w. PairOf concept_pairs tbox (c, w)) (sym e) (record { inclusion = IClass c a; stands = s; gives = front (c, BClass a) [] })
   directly_pair c b (IsDirectlyBelow.by_filler p k a e) = subst (λ w. PairOf concept_pairs tbox (c, w)) (sym e) (adds_pair p k c a)

@@ -12,7 +12,8 @@ use Rattle.mast_tbox.specs.Expressions.{inverse_role, inverse}
 use Rattle.mast_tbox.specs.Inclusions.{States, Leads, prop_pairs}
 use Rattle.mast_tbox.specs.Lists.{Reaches, itself, onward, items}
 use Rattle.mast_tbox.specs.Properties.{IsBelow, AreEquivalent}
-use Rattle.mast_tbox.specs.Components.{turned, ends, all_ends, Inside, Settled, Settles, IsAround, chosen, TellsComponents}
+use Rattle.mast_tbox.specs.inside.Components.{turned, ends, all_ends, Inside, Settled, SettlesBy, IsAround, TellsComponents}
+use Rattle.mast_tbox.specs.inside.Chosen.{chosen}
 use Rattle.mast_tbox.proofs.MemberLemmas.{none, first_or, only_one, map_in, map_out}
 use Rattle.mast_tbox.proofs.BelowLemmas.{leads_pair}
 use Rattle.mast_tbox.proofs.WorkLemmas.{reaches_join, reaches_more, reaches_weaker}
@@ -53,9 +54,11 @@ leads_ends tbox p q l =
     (ends_has tbox w.inclusion p w.stands e.0, ends_has tbox w.inclusion q w.stands e.1)
 
 module _ (tbox : List Inclusion) where
+  -- being equivalent is symmetric
   pub equivalent_turned : (p q : Prop) → AreEquivalent tbox p q → AreEquivalent tbox q p
   equivalent_turned p q e = (e.1, e.0)
 
+  -- and transitive
   pub equivalent_join : (p q r : Prop) → AreEquivalent tbox p q → AreEquivalent tbox q r → AreEquivalent tbox p r
   equivalent_join p q r e f = (reaches_join p q r e.0 f.0, reaches_join r q p f.1 e.1)
 
@@ -110,7 +113,7 @@ module _ (tbox : List Inclusion) (below above : Prop → List Prop) (below_is : 
     λ e. (a.1.1 q).1 (same_all a.0 a.1.0 root q e.1 itself itself e.0),
   )
 
-  module _ (left : List Prop) (after : Prop → Option Prop) (s : Settles below above free note root left after) where
+  module _ (left : List Prop) (after : Prop → Option Prop) (s : SettlesBy below above free note root left after) where
     is_same : (q : Prop) → Contains s.same q ↔ AreEquivalent tbox q root
     is_same q = around_is s.same s.around q
 
@@ -219,6 +222,7 @@ module _ (lines : List (Lined Inclusion)) where
   states_has (PAttr u) (PRole s) c = absurd c
   states_has (PAttr u) (PAttr v) c = turned_has (IAttr v u) c
 
+  -- the turned inclusions lead back
   pub leads_turned : (p q : Prop) → Leads all_turned p q ↔ Leads (items lines) q p
   leads_turned p q = (
     λ l. elim l [ inl s ↦ inl (states_from p q s) | inr s ↦ inr (states_from (inverse p) (inverse q) s) ],

@@ -24,6 +24,7 @@ module _ {X : Type 0} (eq : X → X → Bool) where
   firsts_join k [] qs = refl
   firsts_join k (p ∷ ps) qs = firsts_case k p (firsts eq k ps) (firsts eq k qs) (firsts eq k (ps ++ qs)) (eq p.1 k) (firsts_join k ps qs)
 
+  -- two lists inserted one after the other
   pub all_join : (xs ys ks : List X) → insert_all eq ks (xs ++ ys) ≡ insert_all eq (insert_all eq ks xs) ys
   all_join [] ys ks = refl
   all_join (x ∷ xs) ys ks = all_join xs ys (insert_key eq ks x)

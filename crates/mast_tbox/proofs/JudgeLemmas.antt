@@ -1,11 +1,7 @@
 -- Judging by the chiefs finds the restriction breach.
 use Rattle.std.proofs.Common.{◌≡◌, ℕ, inl, inr, ◌↔◌, Bool, true, false, ◌||◌, Option, Some, None, List, [], ◌∷◌, ◌++◌, map, Contains, refl, sym, ap, subst, ◌∙◌, if◌then◌else◌}
-use Rattle.std.specs.List.{list_any}
-use Rattle.std.specs.Cmp.{IsEquivalence}
 use Rattle.std.proofs.lemmas.List.Elements.{Contains-append_left, Contains-append_right, Contains-append_cases}
-use Rattle.std.proofs.lemmas.List.{map-append}
 use Rattle.std.proofs.lemmas.Map.Views.{list_any-from_Contains, Contains-from_any}
-use Rattle.indexmap.specs.IndexSet.{IndexSet, insert_all}
 use Rattle.mast_tree.specs.declared.item.DocName.TheVariants.{Ontology, Constraints}
 use Rattle.mast_cq.specs.Sorts.{IsFirst}
 use Rattle.mast_tbox.specs.declared.expression.Prop.{Prop}
@@ -18,17 +14,17 @@ use Rattle.mast_tbox.specs.declared.constraint.Constraint.TheVariants.{Functiona
 use Rattle.mast_tbox.specs.declared.restriction.RestrictionKind.{RestrictionKind}
 use Rattle.mast_tbox.specs.declared.restriction.RestrictionKind.TheVariants.{FunctSpecialised, NotLocal, AnchorSpecialised}
 use Rattle.mast_tbox.specs.declared.restriction.RestrictionBreach.{RestrictionBreach}
-use Rattle.mast_tbox.specs.Expressions.{inverse}
+use Rattle.mast_tbox.specs.Expressions.{inverse, same_prop}
 use Rattle.mast_tbox.specs.Inclusions.{Leads, States}
 use Rattle.mast_tbox.specs.Lists.{itself, onward, items}
 use Rattle.mast_tbox.specs.Properties.{IsBelow, AreEquivalent}
-use Rattle.mast_tbox.specs.Components.{TellsComponents}
-use Rattle.mast_tbox.specs.Judging.{unless_same, narrowed, all_narrowed, made_functional, functionals, is_like, passes, first_line, judged, breach_kind, at_line, first_judged}
+use Rattle.mast_tbox.specs.inside.Components.{TellsComponents}
+use Rattle.mast_tbox.specs.inside.Judging.{unless_same, narrowed, all_narrowed, made_functional, functionals, marked, is_like, passes, narrows, first_line, judged, breach_kind, at_line, first_judged}
+use Rattle.mast_tbox.specs.inside.Chosen.{is_in}
 use Rattle.mast_tbox.specs.Restrictions.{IsLike, Specialises, IsSpecialised, IsFunctional, SpecialisesFunctional, with_first, anchors, AllSpecialised, Breaches, NoneOf, NoAxiom, IsAxiomBreach, BreachesSome, IsConstraintBreach, IsRestrictionBreach}
 use Rattle.mast_tbox.proofs.MemberLemmas.{front, later, none, first_or, map_in, map_out}
-use Rattle.mast_tbox.proofs.EqualityLemmas.{inverse_twice}
+use Rattle.mast_tbox.proofs.EqualityLemmas.{inverse_twice, prop_same, prop_equivalence}
 use Rattle.mast_tbox.proofs.WorkLemmas.{all_from, all_has}
-use Rattle.mast_tbox.proofs.IndexLemmas.{all_join}
 use Rattle.mast_tbox.proofs.ComponentLemmas.{equivalent_turned}
 
 module _ (tbox : List Inclusion) where
@@ -37,10 +33,12 @@ module _ (tbox : List Inclusion) where
   inverses_lead p q (inl s) = inr (subst (λ w. States tbox w (inverse (inverse q))) (sym (inverse_twice p)) (subst (States tbox p) (sym (inverse_twice q)) s))
   inverses_lead p q (inr s) = inl s
 
+  -- being below goes over to the inverses
   pub below_inverse : (p q : Prop) → IsBelow tbox p q → IsBelow tbox (inverse p) (inverse q)
   below_inverse p q itself = itself
   below_inverse p q (onward {y = y} l d) = onward (inverses_lead p y l) (below_inverse y q d)
 
+  -- so does being equivalent
   pub equivalent_inverse : (p q : Prop) → AreEquivalent tbox p q → AreEquivalent tbox (inverse p) (inverse q)
   equivalent_inverse p q e = (below_inverse p q e.0, below_inverse q p e.1)
 
@@ -62,19 +60,19 @@ made_rest (Some p) ps q c = later q p ps c
 abbrev pub LikeSome : List Inclusion → List Prop → Prop → Type 0
 LikeSome tbox qs p = (q : Prop) × (Contains qs q × IsLike tbox q p)
 
-module _ (eq : Prop → Prop → Bool) (laws : IsEquivalence eq) (same : (x y : Prop) → eq x y ≡ true → x ≡ y) (tbox : List Inclusion) (f : Prop → Prop) (tells : TellsComponents tbox f) where
-  module _ {S : Type 0} (set : IndexSet Prop S) (qs : List Prop) (holds : set.keys ≡ insert_all eq [] (map f qs)) where
-    key_of : (p : Prop) → list_any (eq (f p)) set.keys ≡ true → (q : Prop) × (Contains qs q × AreEquivalent tbox q p)
-    key_of p t = elim (all_from eq same (map f qs) [] (f p) (subst (λ w. Contains w (f p)) holds (Contains-from_any same (f p) set.keys t))) [
+module _ (tbox : List Inclusion) (f : Prop → Prop) (tells : TellsComponents tbox f) where
+  module _ (set : List Prop) (qs : List Prop) (holds : set ≡ marked f qs) where
+    key_of : (p : Prop) → is_in (f p) set ≡ true → (q : Prop) × (Contains qs q × AreEquivalent tbox q p)
+    key_of p t = elim (all_from same_prop prop_same (map f qs) [] (f p) (subst (λ w. Contains w (f p)) holds (Contains-from_any prop_same (f p) set t))) [
       | inl c ↦ absurd (none (f p) c)
       | inr c ↦ let w = map_out f qs (f p) c in (w.element, (w.stands, equivalent_turned tbox p w.element ((tells p w.element).0 w.is)))
     ]
 
-    key_has : (p q : Prop) → Contains qs q → AreEquivalent tbox q p → list_any (eq (f p)) set.keys ≡ true
+    key_has : (p q : Prop) → Contains qs q → AreEquivalent tbox q p → is_in (f p) set ≡ true
     key_has p q c e =
-        list_any-from_Contains laws (f p) set.keys (subst (λ w. Contains w (f p)) (sym holds) (all_has eq same (map f qs) [] (f p) (subst (Contains (map f qs)) ((tells q p).1 e) (map_in f qs q c))))
+        list_any-from_Contains prop_equivalence (f p) set (subst (λ w. Contains w (f p)) (sym holds) (all_has same_prop prop_same (map f qs) [] (f p) (subst (Contains (map f qs)) ((tells q p).1 e) (map_in f qs q c))))
 
-    like_case : (p : Prop) (a b : Bool) → list_any (eq (f p)) set.keys ≡ a → list_any (eq (f (inverse p))) set.keys ≡ b → (a || b) ≡ true → LikeSome tbox qs p
+    like_case : (p : Prop) (a b : Bool) → is_in (f p) set ≡ a → is_in (f (inverse p)) set ≡ b → (a || b) ≡ true → LikeSome tbox qs p
     like_case p true b e g t = let w = key_of p e in (w.0, (w.1.0, inl w.1.1))
     like_case p false true e g t = let w = key_of (inverse p) g in (w.0, (w.1.0, inr w.1.1))
     like_case p false false e g t = cc
@@ -84,12 +82,12 @@ module _ (eq : Prop → Prop → Bool) (laws : IsEquivalence eq) (same : (x y : 
     or_true false = refl
 
     -- the test on a set of chiefs finds whether some property is like one
-    pub like_is : (p : Prop) → (is_like eq f set p ≡ true) ↔ LikeSome tbox qs p
+    pub like_is : (p : Prop) → (is_like f set p ≡ true) ↔ LikeSome tbox qs p
     like_is p = (
-      like_case p (list_any (eq (f p)) set.keys) (list_any (eq (f (inverse p))) set.keys) refl refl,
+      like_case p (is_in (f p) set) (is_in (f (inverse p)) set) refl refl,
       λ w. elim w.1.1 [
-        | inl e ↦ ap (λ b. b || list_any (eq (f (inverse p))) set.keys) (key_has p w.0 w.1.0 e)
-        | inr e ↦ ap (λ b. list_any (eq (f p)) set.keys || b) (key_has (inverse p) w.0 w.1.0 e) ∙ or_true (list_any (eq (f p)) set.keys)
+        | inl e ↦ ap (λ b. b || is_in (f (inverse p)) set) (key_has p w.0 w.1.0 e)
+        | inr e ↦ ap (λ b. is_in (f p) set || b) (key_has (inverse p) w.0 w.1.0 e) ∙ or_true (is_in (f p) set)
       ],
     )
 
@@ -97,30 +95,30 @@ module _ (eq : Prop → Prop → Bool) (laws : IsEquivalence eq) (same : (x y : 
   unless_out true p q e = cc
   unless_out false p q e = (refl, cc)
 
-  apart : (p q : Prop) → eq (f p) (f q) ≡ false → AreEquivalent tbox p q → ⊥
-  apart p q e a = absurd (let g : true ≡ false = sym (laws.refl (f q)) ∙ (ap (λ w. eq w (f q)) (sym ((tells p q).1 a)) ∙ e) in cc)
+  apart : (p q : Prop) → same_prop (f p) (f q) ≡ false → AreEquivalent tbox p q → ⊥
+  apart p q e a = absurd (let g : true ≡ false = sym (prop_equivalence.refl (f q)) ∙ (ap (λ w. same_prop w (f q)) (sym ((tells p q).1 a)) ∙ e) in cc)
 
-  unless_in : (p q : Prop) (b : Bool) → eq (f p) (f q) ≡ b → (AreEquivalent tbox p q → ⊥) → unless_same b q ≡ Some q
-  unless_in p q true e n = absurd (n ((tells p q).0 (same (f p) (f q) e)))
+  unless_in : (p q : Prop) (b : Bool) → same_prop (f p) (f q) ≡ b → (AreEquivalent tbox p q → ⊥) → unless_same b q ≡ Some q
+  unless_in p q true e n = absurd (n ((tells p q).0 (prop_same (f p) (f q) e)))
   unless_in p q false e n = refl
 
   -- an inclusion specialises exactly what is like the property that it narrows
-  pub specialises_in : (i : Inclusion) (p q : Prop) → narrowed eq f i ≡ Some q → IsLike tbox p q → Specialises tbox i p
+  pub specialises_in : (i : Inclusion) (p q : Prop) → narrowed f i ≡ Some q → IsLike tbox p q → Specialises tbox i p
   specialises_in (IClass b a) p q e l = cc
   specialises_in (Exists b r None k) p q e l = cc
   specialises_in (Exists b r (Some a) k) p q e l = let g : PRole r ≡ q = cc in subst (IsLike tbox p) (sym g) l
   specialises_in (HasValue b u k) p q e l = cc
-  specialises_in (IRole r s) p q e l = let g = unless_out (eq (f (PRole r)) (f (PRole s))) (PRole s) q e in (apart (PRole r) (PRole s) g.0, subst (IsLike tbox p) (sym g.1) l)
-  specialises_in (IAttr u v) p q e l = let g = unless_out (eq (f (PAttr u)) (f (PAttr v))) (PAttr v) q e in (apart (PAttr u) (PAttr v) g.0, subst (IsLike tbox p) (sym g.1) l)
+  specialises_in (IRole r s) p q e l = let g = unless_out (same_prop (f (PRole r)) (f (PRole s))) (PRole s) q e in (apart (PRole r) (PRole s) g.0, subst (IsLike tbox p) (sym g.1) l)
+  specialises_in (IAttr u v) p q e l = let g = unless_out (same_prop (f (PAttr u)) (f (PAttr v))) (PAttr v) q e in (apart (PAttr u) (PAttr v) g.0, subst (IsLike tbox p) (sym g.1) l)
   specialises_in (Range u kind) p q e l = cc
 
-  pub specialises_out : (i : Inclusion) (p : Prop) → Specialises tbox i p → (q : Prop) × ((narrowed eq f i ≡ Some q) × IsLike tbox p q)
+  pub specialises_out : (i : Inclusion) (p : Prop) → Specialises tbox i p → (q : Prop) × ((narrowed f i ≡ Some q) × IsLike tbox p q)
   specialises_out (IClass b a) p s = absurd s
   specialises_out (Exists b r None k) p s = absurd s
   specialises_out (Exists b r (Some a) k) p s = (PRole r, (refl, s))
   specialises_out (HasValue b u k) p s = absurd s
-  specialises_out (IRole r t) p s = (PRole t, (unless_in (PRole r) (PRole t) (eq (f (PRole r)) (f (PRole t))) refl s.0, s.1))
-  specialises_out (IAttr u v) p s = (PAttr v, (unless_in (PAttr u) (PAttr v) (eq (f (PAttr u)) (f (PAttr v))) refl s.0, s.1))
+  specialises_out (IRole r t) p s = (PRole t, (unless_in (PRole r) (PRole t) (same_prop (f (PRole r)) (f (PRole t))) refl s.0, s.1))
+  specialises_out (IAttr u v) p s = (PAttr v, (unless_in (PAttr u) (PAttr v) (same_prop (f (PAttr u)) (f (PAttr v))) refl s.0, s.1))
   specialises_out (Range u kind) p s = absurd s
 
   passes_out : (test : Prop → Bool) (o : Option Prop) → passes test o ≡ true → (q : Prop) × ((o ≡ Some q) × (test q ≡ true))
@@ -128,34 +126,34 @@ module _ (eq : Prop → Prop → Bool) (laws : IsEquivalence eq) (same : (x y : 
   passes_out test (Some q) t = (q, (refl, t))
 
   -- so the test on an inclusion finds whether it specialises a functional property
-  pub axiom_is : {S : Type 0} (set : IndexSet Prop S) (qs : List Prop) → set.keys ≡ insert_all eq [] (map f qs) → (F : Prop → Type 0) → ((p : Prop) → Contains qs p ↔ F p)
-      → (l : Lined Inclusion) → (passes (is_like eq f set) (narrowed eq f l.item) ≡ true) ↔ SpecialisesFunctional tbox F l
+  pub axiom_is : (set qs : List Prop) → set ≡ marked f qs → (F : Prop → Type 0) → ((p : Prop) → Contains qs p ↔ F p)
+      → (l : Lined Inclusion) → (narrows f set l.item ≡ true) ↔ SpecialisesFunctional tbox F l
   axiom_is set qs holds F is l = (
-    λ t. let w = passes_out (is_like eq f set) (narrowed eq f l.item) t in
+    λ t. let w = passes_out (is_like f set) (narrowed f l.item) t in
         let v = (like_is set qs holds w.0).0 w.1.1 in
         (v.0, ((is v.0).0 v.1.0, specialises_in l.item v.0 w.0 w.1.0 v.1.1)),
     λ s. let w = specialises_out l.item s.0 s.1.1 in
-        ap (passes (is_like eq f set)) w.1.0 ∙ (like_is set qs holds w.0).1 (s.0, ((is s.0).1 s.1.0, w.1.1)),
+        ap (passes (is_like f set)) w.1.0 ∙ (like_is set qs holds w.0).1 (s.0, ((is s.0).1 s.1.0, w.1.1)),
   )
 
-  narrowed_case : (l : Lined Inclusion) (ls : List (Lined Inclusion)) (q : Prop) (o : Option Prop) → narrowed eq f l.item ≡ o
-      → (Contains (all_narrowed eq f ls) q → (i : Inclusion) × (Contains (items ls) i × (narrowed eq f i ≡ Some q))) → Contains (with_first o (all_narrowed eq f ls)) q
-      → (i : Inclusion) × (Contains (items (l ∷ ls)) i × (narrowed eq f i ≡ Some q))
+  narrowed_case : (l : Lined Inclusion) (ls : List (Lined Inclusion)) (q : Prop) (o : Option Prop) → narrowed f l.item ≡ o
+      → (Contains (all_narrowed f ls) q → (i : Inclusion) × (Contains (items ls) i × (narrowed f i ≡ Some q))) → Contains (with_first o (all_narrowed f ls)) q
+      → (i : Inclusion) × (Contains (items (l ∷ ls)) i × (narrowed f i ≡ Some q))
   narrowed_case l ls q None e ih c = let w = ih c in (w.0, (later w.0 l.item (items ls) w.1.0, w.1.1))
-  narrowed_case l ls q (Some p) e ih c = elim (first_or p (all_narrowed eq f ls) q c) [
+  narrowed_case l ls q (Some p) e ih c = elim (first_or p (all_narrowed f ls) q c) [
     | inl g ↦ (l.item, (front l.item (items ls), e ∙ ap Some (sym g)))
     | inr d ↦ let w = ih d in (w.0, (later w.0 l.item (items ls) w.1.0, w.1.1))
   ]
 
-  narrowed_from : (ls : List (Lined Inclusion)) (q : Prop) → Contains (all_narrowed eq f ls) q → (i : Inclusion) × (Contains (items ls) i × (narrowed eq f i ≡ Some q))
+  narrowed_from : (ls : List (Lined Inclusion)) (q : Prop) → Contains (all_narrowed f ls) q → (i : Inclusion) × (Contains (items ls) i × (narrowed f i ≡ Some q))
   narrowed_from [] q c = absurd (none q c)
-  narrowed_from (l ∷ ls) q c = narrowed_case l ls q (narrowed eq f l.item) refl (narrowed_from ls q) c
+  narrowed_from (l ∷ ls) q c = narrowed_case l ls q (narrowed f l.item) refl (narrowed_from ls q) c
 
-  narrowed_has : (ls : List (Lined Inclusion)) (i : Inclusion) (q : Prop) → Contains (items ls) i → narrowed eq f i ≡ Some q → Contains (all_narrowed eq f ls) q
+  narrowed_has : (ls : List (Lined Inclusion)) (i : Inclusion) (q : Prop) → Contains (items ls) i → narrowed f i ≡ Some q → Contains (all_narrowed f ls) q
   narrowed_has [] i q c e = absurd (none i c)
   narrowed_has (l ∷ ls) i q c e = elim (first_or l.item (items ls) i c) [
-    | inl g ↦ made_first (narrowed eq f l.item) (all_narrowed eq f ls) q (ap (narrowed eq f) (sym g) ∙ e)
-    | inr d ↦ made_rest (narrowed eq f l.item) (all_narrowed eq f ls) q (narrowed_has ls i q d e)
+    | inl g ↦ made_first (narrowed f l.item) (all_narrowed f ls) q (ap (narrowed f) (sym g) ∙ e)
+    | inr d ↦ made_rest (narrowed f l.item) (all_narrowed f ls) q (narrowed_has ls i q d e)
   ]
 
 -- a property is functional exactly where it stands in the two lists
@@ -183,6 +181,7 @@ functionals_has (l ∷ ls) p c = elim (first_or l.item (items ls) (Functional p)
   | inr d ↦ made_rest (made_functional l.item) (functionals ls) p (functionals_has ls p d)
 ]
 
+-- the functional properties are those of the ontology and those of the constraints
 pub functional_is : (functional : List (Lined Prop)) (constraints : List (Lined Constraint)) (p : Prop) → Contains (items functional ++ functionals constraints) p ↔ IsFunctional functional constraints p
 functional_is functional constraints p = (
   λ c. elim (Contains-append_cases (items functional) (functionals constraints) p c) [ inl i ↦ inl i | inr i ↦ inr (functionals_from constraints p i) ],
@@ -291,15 +290,14 @@ module _ (tbox : List Inclusion) (test : Prop → Bool) (is : (p : Prop) → (te
   no_breach (l ∷ ls) e = no_case l ls (breach_kind test l.item) refl (no_breach ls) e
 
 -- a property is specialised exactly where it is like one that is narrowed
-pub special_is : (eq : Prop → Prop → Bool) → IsEquivalence eq → ((x y : Prop) → eq x y ≡ true → x ≡ y) → (lines : List (Lined Inclusion)) (f : Prop → Prop) → TellsComponents (items lines) f → {S : Type 0} (set : IndexSet Prop S)
-    → set.keys ≡ insert_all eq [] (map f (all_narrowed eq f lines)) → (p : Prop) → (is_like eq f set p ≡ true) ↔ IsSpecialised (items lines) p
-special_is eq laws same lines f tells set holds p = (
-  λ t. let w = (like_is eq laws same (items lines) f tells set (all_narrowed eq f lines) holds p).0 t in
-      let v = narrowed_from eq laws same (items lines) f tells lines w.0 w.1.0 in
-      (v.0, (v.1.0, specialises_in eq laws same (items lines) f tells v.0 p w.0 v.1.1 (like_turned (items lines) w.0 p w.1.1))),
-  λ s. let w = specialises_out eq laws same (items lines) f tells s.0 p s.1.1 in
-      (like_is eq laws same (items lines) f tells set (all_narrowed eq f lines) holds p).1
-      (w.0, (narrowed_has eq laws same (items lines) f tells lines s.0 w.0 s.1.0 w.1.0, like_turned (items lines) p w.0 w.1.1)),
+pub special_is : (lines : List (Lined Inclusion)) (f : Prop → Prop) → TellsComponents (items lines) f → (set : List Prop) → set ≡ marked f (all_narrowed f lines) → (p : Prop) → (is_like f set p ≡ true) ↔ IsSpecialised (items lines) p
+special_is lines f tells set holds p = (
+  λ t. let w = (like_is (items lines) f tells set (all_narrowed f lines) holds p).0 t in
+      let v = narrowed_from (items lines) f tells lines w.0 w.1.0 in
+      (v.0, (v.1.0, specialises_in (items lines) f tells v.0 p w.0 v.1.1 (like_turned (items lines) w.0 p w.1.1))),
+  λ s. let w = specialises_out (items lines) f tells s.0 p s.1.1 in
+      (like_is (items lines) f tells set (all_narrowed f lines) holds p).1
+      (w.0, (narrowed_has (items lines) f tells lines s.0 w.0 s.1.0 w.1.0, like_turned (items lines) p w.0 w.1.1)),
 )
 
 -- the breach by an axiom, and by a constraint where there is none
@@ -312,24 +310,17 @@ pub constraint_breach : (inclusions : List (Lined Inclusion)) (functional : List
 constraint_breach inclusions functional constraints test is n None e = (n, no_breach (items inclusions) test is constraints (sym e))
 constraint_breach inclusions functional constraints test is n (Some b) e = inr (n, breach_is (items inclusions) test is constraints b (sym e))
 
-module _ (eq : Prop → Prop → Bool) (laws : IsEquivalence eq) (same : (x y : Prop) → eq x y ≡ true → x ≡ y) (lines : List (Lined Inclusion)) (functional : List (Lined Prop)) (constraints : List (Lined Constraint))
-    (f : Prop → Prop) (tells : TellsComponents (items lines) f) {S : Type 0} (set : IndexSet Prop S)
-    (holds : set.keys ≡ insert_all eq (insert_all eq [] (map f (items functional))) (map f (functionals constraints))) where
-  both_held : set.keys ≡ insert_all eq [] (map f (items functional ++ functionals constraints))
-  both_held = holds ∙ (sym (all_join eq (map f (items functional)) (map f (functionals constraints)) []) ∙ ap (insert_all eq []) (sym (map-append f (items functional) (functionals constraints))))
-
-  line_is : (l : Lined Inclusion) → (passes (is_like eq f set) (narrowed eq f l.item) ≡ true) ↔ SpecialisesFunctional (items lines) (IsFunctional functional constraints) l
-  line_is l = axiom_is eq laws same (items lines) f tells set (items functional ++ functionals constraints) both_held (IsFunctional functional constraints) (functional_is functional constraints) l
+module _ (lines : List (Lined Inclusion)) (functional : List (Lined Prop)) (constraints : List (Lined Constraint)) (f : Prop → Prop) (tells : TellsComponents (items lines) f) (set : List Prop)
+    (holds : set ≡ marked f (items functional ++ functionals constraints)) where
+  line_is : (l : Lined Inclusion) → (narrows f set l.item ≡ true) ↔ SpecialisesFunctional (items lines) (IsFunctional functional constraints) l
+  line_is l = axiom_is (items lines) f tells set (items functional ++ functionals constraints) holds (IsFunctional functional constraints) (functional_is functional constraints) l
 
   -- where a line is found it is the breach
-  pub found_breach : (n : ℕ) → first_line (λ i. passes (is_like eq f set) (narrowed eq f i)) lines ≡ Some n
-      → IsRestrictionBreach lines functional constraints (Some (record { doc = Ontology; line = n; kind = FunctSpecialised }))
-  found_breach n e = inl (axiom_breach lines (IsFunctional functional constraints) n
-      (first_is (λ i. passes (is_like eq f set) (narrowed eq f i)) (SpecialisesFunctional (items lines) (IsFunctional functional constraints)) line_is lines n e))
+  pub found_breach : (n : ℕ) → first_line (narrows f set) lines ≡ Some n → IsRestrictionBreach lines functional constraints (Some (record { doc = Ontology; line = n; kind = FunctSpecialised }))
+  found_breach n e = inl (axiom_breach lines (IsFunctional functional constraints) n (first_is (narrows f set) (SpecialisesFunctional (items lines) (IsFunctional functional constraints)) line_is lines n e))
 
   -- and where none is, it is that of the constraints
-  pub judged_breach : first_line (λ i. passes (is_like eq f set) (narrowed eq f i)) lines ≡ None → (special : IndexSet Prop S) → special.keys ≡ insert_all eq [] (map f (all_narrowed eq f lines))
-      → (o : Option RestrictionBreach) → o ≡ first_judged (is_like eq f special) constraints → IsRestrictionBreach lines functional constraints o
+  pub judged_breach : first_line (narrows f set) lines ≡ None → (special : List Prop) → special ≡ marked f (all_narrowed f lines) → (o : Option RestrictionBreach) → o ≡ first_judged (is_like f special) constraints
+      → IsRestrictionBreach lines functional constraints o
   judged_breach e special h o g =
-      constraint_breach lines functional constraints (is_like eq f special) (special_is eq laws same lines f tells special h)
-      (none_is (λ i. passes (is_like eq f set) (narrowed eq f i)) (SpecialisesFunctional (items lines) (IsFunctional functional constraints)) line_is lines e) o g
+      constraint_breach lines functional constraints (is_like f special) (special_is lines f tells special h) (none_is (narrows f set) (SpecialisesFunctional (items lines) (IsFunctional functional constraints)) line_is lines e) o g

@@ -1,3 +1,4 @@
+-- The lemmas, by topic.
 pub mod MemberLemmas
 pub mod EqualityLemmas
 pub mod WorkLemmas

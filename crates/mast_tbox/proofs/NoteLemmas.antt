@@ -5,8 +5,11 @@ use Rattle.std.specs.Cmp.{IsEquivalence}
 use Rattle.std.proofs.lemmas.List.{drop_more}
 use Rattle.std.proofs.lemmas.Map.Views.{list_any-from_Contains, Contains-from_any}
 use Rattle.mast_tbox.specs.declared.expression.Prop.{Prop}
-use Rattle.mast_tbox.specs.Lists.{Reaches}
-use Rattle.mast_tbox.specs.Components.{noted, kept, Inside, Settles}
+use Rattle.mast_tbox.specs.declared.groups.Groups.{Groups}
+use Rattle.mast_tbox.specs.Expressions.{same_prop}
+use Rattle.mast_tbox.specs.inside.Components.{noted, kept, AreNoted, AreClosed, Inside, HasReached, Settles, next_in}
+use Rattle.mast_tbox.specs.inside.Chosen.{is_in, noted_chief}
+use Rattle.mast_tbox.proofs.EqualityLemmas.{prop_same, prop_equivalence}
 use Rattle.mast_tbox.proofs.MemberLemmas.{front, later, none, first_or}
 
 noted_case : (root : Prop) (b a : Bool) (before : Option Prop) → (if a then Some root else cond b (Some root) before) ≡ (if b || a then Some root else before)
@@ -21,21 +24,21 @@ kept_case true false before = refl
 kept_case false true before = refl
 kept_case false false before = refl
 
-module _ (eq : Prop → Prop → Bool) (laws : IsEquivalence eq) where
-  -- one property more: what is left to note falls by it
-  pub noted_next : (root p : Prop) (props : List Prop) (i : ℕ) (d : Prop) (before after : Option Prop) → i < length props → after ≡ cond (eq (slice_index_or props i d) p) (Some root) before
-      → noted eq root (drop (i + 1) props) p after ≡ noted eq root (drop i props) p before
-  noted_next root p props i d before after l e =
-      ap (noted eq root (drop (i + 1) props) p) (e ∙ ap (λ b. cond b (Some root) before) (laws.symm (slice_index_or props i d) p))
-      ∙ (noted_case root (eq p (slice_index_or props i d)) (list_any (eq p) (drop (i + 1) props)) before
-      ∙ ap (λ w. noted eq root w p before) (sym (drop_more props i d l)))
+-- one property more: what is left to note falls by it
+pub noted_next : (root p : Prop) (props : List Prop) (i : ℕ) (d : Prop) (before after : Option Prop) → i < length props → after ≡ cond (same_prop (slice_index_or props i d) p) (Some root) before
+    → noted root (drop (i + 1) props) p after ≡ noted root (drop i props) p before
+noted_next root p props i d before after l e =
+    ap (noted root (drop (i + 1) props) p) (e ∙ ap (λ b. cond b (Some root) before) (prop_equivalence.symm (slice_index_or props i d) p))
+    ∙ (noted_case root (same_prop p (slice_index_or props i d)) (is_in p (drop (i + 1) props)) before
+    ∙ ap (λ w. noted root w p before) (sym (drop_more props i d l)))
 
-  pub kept_next : (p : Prop) (props : List Prop) (i : ℕ) (d : Prop) (before after : Bool) → i < length props → after ≡ cond (eq (slice_index_or props i d) p) false before
-      → kept eq (drop (i + 1) props) p after ≡ kept eq (drop i props) p before
-  kept_next p props i d before after l e =
-      ap (kept eq (drop (i + 1) props) p) (e ∙ ap (λ b. cond b false before) (laws.symm (slice_index_or props i d) p))
-      ∙ (kept_case (eq p (slice_index_or props i d)) (list_any (eq p) (drop (i + 1) props)) before
-      ∙ ap (λ w. kept eq w p before) (sym (drop_more props i d l)))
+-- and so does what is left to close
+pub kept_next : (p : Prop) (props : List Prop) (i : ℕ) (d : Prop) (before after : Bool) → i < length props → after ≡ cond (same_prop (slice_index_or props i d) p) false before
+    → kept (drop (i + 1) props) p after ≡ kept (drop i props) p before
+kept_next p props i d before after l e =
+    ap (kept (drop (i + 1) props) p) (e ∙ ap (λ b. cond b false before) (prop_equivalence.symm (slice_index_or props i d) p))
+    ∙ (kept_case (same_prop p (slice_index_or props i d)) (is_in p (drop (i + 1) props)) before
+    ∙ ap (λ w. kept w p before) (sym (drop_more props i d l)))
 
 -- the elements of a list that pass a test
 module _ {X : Type 0} (test : X → Bool) where
@@ -69,35 +72,33 @@ stands_or {X} eq laws same xs x = go (list_any (eq x) xs) refl
     go true e = inl (Contains-from_any same x xs e, e)
     go false e = inr (λ c. absurd (let g : true ≡ false = sym (list_any-from_Contains laws x xs c) ∙ e in cc), e)
 
-module _ (eq : Prop → Prop → Bool) (laws : IsEquivalence eq) (same : (x y : Prop) → eq x y ≡ true → x ≡ y) where
-  -- the elements of a list that stand in another
-  pub inside_is : (keys : List Prop) (next : Prop → List Prop) (p q : Prop) → Contains (filter (λ k. list_any (eq k) keys) (next p)) q ↔ Inside keys next p q
-  inside_is keys next p q = (
-    λ c. let w = filter_from (λ k. list_any (eq k) keys) (next p) q c in (w.0, Contains-from_any same q keys w.1),
-    λ i. filter_has (λ k. list_any (eq k) keys) (next p) q i.0 (list_any-from_Contains laws q keys i.1),
-  )
+-- the elements of a list that stand in another
+pub inside_is : (keys : List Prop) (next : Prop → List Prop) (p q : Prop) → Contains (filter (λ k. is_in k keys) (next p)) q ↔ Inside keys next p q
+inside_is keys next p q = (
+  λ c. let w = filter_from (λ k. is_in k keys) (next p) q c in (w.0, Contains-from_any prop_same q keys w.1),
+  λ i. filter_has (λ k. is_in k keys) (next p) q i.0 (list_any-from_Contains prop_equivalence q keys i.1),
+)
 
-  -- noting a root for the properties around it settles them
-  pub settles_by : (below above : Prop → List Prop) (free : List Prop) (before : Prop → Option Prop) (root : Prop) (left : List Prop) (after : Prop → Option Prop) (under around : List Prop)
-      → ((p : Prop) → Contains under p ↔ Reaches (Inside free below) root p) → ((p : Prop) → Contains around p ↔ Reaches (Inside under above) root p)
-      → ((p : Prop) → after p ≡ noted eq root around p (before p)) → ((p : Prop) → list_any (eq p) left ≡ kept eq around p (list_any (eq p) free)) → Settles below above free before root left after
-  settles_by below above free before root left after under around under_is around_is chiefs still = record {
-    same = around;
-    around = (under, (under_is, around_is));
-    inside = λ p c. chiefs p ∙ ap (λ b. if b then Some root else before p) (list_any-from_Contains laws p around c);
-    outside = λ p n. chiefs p ∙ ap (λ b. if b then Some root else before p) (absent p n);
-    decided = λ p. elim (stands_or eq laws same around p) [ inl w ↦ inl w.0 | inr w ↦ inr w.0 ];
-    still_free = λ p. (left_from p, left_has p);
-  }
-    where
-      absent : (p : Prop) → (Contains around p → ⊥) → list_any (eq p) around ≡ false
-      absent p n = elim (stands_or eq laws same around p) [ inl w ↦ absurd (n w.0) | inr w ↦ w.1 ]
+-- noting a root for the properties around it settles them
+pub settles_by : (below above : Groups Prop) (free : List Prop) (before : List (Prop × Prop)) (root : Prop) (left : List Prop) (after : List (Prop × Prop)) (under around : List Prop)
+    → HasReached (next_in below) free root under → HasReached (next_in above) under root around → AreNoted root around before after → AreClosed around free left → Settles below above free before root left after
+settles_by below above free before root left after under around under_is around_is chiefs still = record {
+  same = around;
+  around = (under, (under_is, around_is));
+  inside = λ p c. chiefs p ∙ ap (λ b. if b then Some root else noted_chief before p) (list_any-from_Contains prop_equivalence p around c);
+  outside = λ p n. chiefs p ∙ ap (λ b. if b then Some root else noted_chief before p) (absent p n);
+  decided = λ p. elim (stands_or same_prop prop_equivalence prop_same around p) [ inl w ↦ inl w.0 | inr w ↦ inr w.0 ];
+  still_free = λ p. (left_from p, left_has p);
+}
+  where
+    absent : (p : Prop) → (Contains around p → ⊥) → is_in p around ≡ false
+    absent p n = elim (stands_or same_prop prop_equivalence prop_same around p) [ inl w ↦ absurd (n w.0) | inr w ↦ w.1 ]
 
-      left_from : (p : Prop) → Contains left p → Contains free p × (Contains around p → ⊥)
-      left_from p c = elim (stands_or eq laws same around p) [
-        | inl w ↦ absurd (let g : true ≡ false = sym (list_any-from_Contains laws p left c) ∙ (still p ∙ ap (λ b. if b then false else list_any (eq p) free) w.1) in cc)
-        | inr w ↦ (Contains-from_any same p free (sym (still p ∙ ap (λ b. if b then false else list_any (eq p) free) w.1) ∙ list_any-from_Contains laws p left c), w.0)
-      ]
+    left_from : (p : Prop) → Contains left p → Contains free p × (Contains around p → ⊥)
+    left_from p c = elim (stands_or same_prop prop_equivalence prop_same around p) [
+      | inl w ↦ absurd (let g : true ≡ false = sym (list_any-from_Contains prop_equivalence p left c) ∙ (still p ∙ ap (λ b. if b then false else is_in p free) w.1) in cc)
+      | inr w ↦ (Contains-from_any prop_same p free (sym (still p ∙ ap (λ b. if b then false else is_in p free) w.1) ∙ list_any-from_Contains prop_equivalence p left c), w.0)
+    ]
 
-      left_has : (p : Prop) → Contains free p × (Contains around p → ⊥) → Contains left p
-      left_has p w = Contains-from_any same p left (still p ∙ (ap (λ b. if b then false else list_any (eq p) free) (absent p w.1) ∙ list_any-from_Contains laws p free w.0))
+    left_has : (p : Prop) → Contains free p × (Contains around p → ⊥) → Contains left p
+    left_has p w = Contains-from_any prop_same p left (still p ∙ (ap (λ b. if b then false else is_in p free) (absent p w.1) ∙ list_any-from_Contains prop_equivalence p free w.0))

@@ -43,6 +43,7 @@ numbers_below ls bound e l = subst (AllBelow bound) (sym e) (counted_below 0 (nu
 below_rest : (bound : ℕ) (l : Lined Inclusion) (ls : List (Lined Inclusion)) → AllBelow bound (numbers (l ∷ ls)) → AllBelow bound (number_of l.item) × AllBelow bound (numbers ls)
 below_rest bound l ls h = below_front bound (number_of l.item) (numbers ls) h
 
+-- where the numbers of the rest are less than a bound, that at a place is
 pub below_at : (bound : ℕ) (ls : List (Lined Inclusion)) (i : ℕ) (d : Lined Inclusion) → i < length ls → AllBelow bound (numbers (drop i ls)) → AllBelow bound (number_of (slice_index_or ls i d).item)
 below_at bound ls i d l h = (below_rest bound (slice_index_or ls i d) (drop (i + 1) ls) (subst (λ w. AllBelow bound (numbers w)) (drop_more ls i d l) h)).0
 
@@ -100,6 +101,7 @@ one_of n (l ∷ ls) h i j k c d e f = elim (first_or l.item (items ls) i c) [
   ]
 ]
 
+-- each number is of one stated inclusion at most
 pub one_inclusion : (ls : List (Lined Inclusion)) (i j : Inclusion) (k : ℕ) → IsNumbered ls → Contains (items ls) i → Contains (items ls) j → number_of i ≡ k ∷ [] → number_of j ≡ k ∷ [] → i ≡ j
 one_inclusion ls i j k h c d e f = one_of 0 ls h i j k c d e f
 
@@ -109,6 +111,7 @@ pub record Source (tbox : List Inclusion) (i : Inclusion) : Type 0 where
   pub stands : Contains tbox stated
   pub gives : Contains (normal_of stated) i
 
+-- each normal inclusion comes from a stated one
 pub source_of : (tbox : List Inclusion) (i : Inclusion) → Contains (normal tbox) i → Source tbox i
 source_of [] i c = absurd (none i c)
 source_of (j ∷ is) i c = elim (Contains-append_cases (normal_of j) (normal is) i c) [
@@ -153,6 +156,7 @@ one_normal (IRole r s) i j k c d e f = only_one (IRole r s) i c ∙ sym (only_on
 one_normal (IAttr u v) i j k c d e f = only_one (IAttr u v) i c ∙ sym (only_one (IAttr u v) j d)
 one_normal (Range u kind) i j k c d e f = absurd (none i c)
 
+-- each number is of one normal inclusion at most
 pub one_normal_inclusion : (ls : List (Lined Inclusion)) (i j : Inclusion) (k : ℕ) → IsNumbered ls → Contains (normal (items ls)) i → Contains (normal (items ls)) j → number_of i ≡ k ∷ [] → number_of j ≡ k ∷ [] → i ≡ j
 one_normal_inclusion ls i j k h c d e f =
     let v = source_of (items ls) i c in
@@ -183,10 +187,11 @@ no_end_of (IRole r s) i c = ap end_of (only_one (IRole r s) i c)
 no_end_of (IAttr u v) i c = ap end_of (only_one (IAttr u v) i c)
 no_end_of (Range u kind) i c = absurd (none i c)
 
+-- no normal inclusion says which class its filler is in
 pub no_end : (tbox : List Inclusion) (b : Basic) (r : RoleExpr) (end : Option Name) (k : ℕ) → Contains (normal tbox) (Exists b r end k) → end ≡ None
 no_end tbox b r end k c = let w = source_of tbox (Exists b r end k) c in no_end_of w.stated (Exists b r end k) w.gives
 
--- one inclusion more keeps the numbering, if it has no number or the next one
+-- the numbers of two lists are those of the first and then those of the second
 numbers_join : (ls ms : List (Lined Inclusion)) → numbers (ls ++ ms) ≡ numbers ls ++ numbers ms
 numbers_join [] ms = refl
 numbers_join (l ∷ ls) ms = ap (λ w. number_of l.item ++ w) (numbers_join ls ms) ∙ sym (append_assoc (number_of l.item) (numbers ls) (numbers ms))
@@ -198,12 +203,15 @@ counted_push n k (j ∷ ks) e = ap (λ w. n ∷ w) (counted_push (suc n) k ks (o
 numbers_push : (ls : List (Lined Inclusion)) (l : Lined Inclusion) → numbers (ls ++ l ∷ []) ≡ numbers ls ++ number_of l.item
 numbers_push ls l = numbers_join ls (l ∷ []) ∙ ap (λ w. numbers ls ++ w) (append-nil (number_of l.item))
 
+-- an inclusion without a number adds none
 pub numbered_plain : (ls : List (Lined Inclusion)) (l : Lined Inclusion) → number_of l.item ≡ [] → numbers (ls ++ l ∷ []) ≡ numbers ls
 numbered_plain ls l e = numbers_push ls l ∙ (ap (λ w. numbers ls ++ w) e ∙ append-nil (numbers ls))
 
+-- where no inclusion has a number, they are numbered from 0
 pub numbered_none : (ls : List (Lined Inclusion)) → numbers ls ≡ [] → IsNumbered ls
 numbered_none ls e = subst (λ w. w ≡ counted 0 w) (sym e) refl
 
+-- one inclusion more keeps the numbering, if it has the next number
 pub numbered_next : (ls : List (Lined Inclusion)) (l : Lined Inclusion) → IsNumbered ls → number_of l.item ≡ length (numbers ls) ∷ [] → IsNumbered (ls ++ l ∷ [])
 numbered_next ls l h e =
     let p : numbers (ls ++ l ∷ []) ≡ numbers ls ++ length (numbers ls) ∷ [] = numbers_push ls l ∙ ap (λ w. numbers ls ++ w) e in

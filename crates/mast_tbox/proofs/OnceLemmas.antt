@@ -38,6 +38,7 @@ module _ {X : Type 0} (eq : X → X → Bool) (same : (x y : X) → eq x y ≡ t
   once_has_case y os x (inl e) = rw e (front y os)
   once_has_case y os x (inr i) = later x y os i
 
+  -- each element stands among those that stand once
   pub once_has : (xs : List X) (x : X) → Contains xs x → Contains (once eq xs) x
   once_has [] x c = c
   once_has (y ∷ xs) x c = once_has_case y (others eq y (once eq xs)) x (elim (first_or y xs x c) [

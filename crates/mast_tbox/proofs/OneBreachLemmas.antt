@@ -10,7 +10,7 @@ use Rattle.mast_tbox.specs.declared.constraint.Constraint.TheVariants.{Functiona
 use Rattle.mast_tbox.specs.declared.restriction.RestrictionKind.{RestrictionKind}
 use Rattle.mast_tbox.specs.declared.restriction.RestrictionKind.TheVariants.{FunctSpecialised, NotLocal, AnchorSpecialised}
 use Rattle.mast_tbox.specs.declared.restriction.RestrictionBreach.{RestrictionBreach}
-use Rattle.mast_tbox.specs.Judging.{functionals}
+use Rattle.mast_tbox.specs.inside.Judging.{functionals}
 use Rattle.mast_tbox.specs.Laws.{Decided, HasOneAnswer}
 use Rattle.mast_tbox.specs.Lists.{items}
 use Rattle.mast_tbox.specs.Restrictions.{IsFunctional, SpecialisesFunctional, anchors, AllSpecialised, Breaches, NoneOf, NoAxiom, IsAxiomBreach, BreachesSome, IsConstraintBreach, IsRestrictionBreach}

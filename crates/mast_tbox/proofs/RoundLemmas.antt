@@ -1,7 +1,5 @@
 -- One root after another: how far the components are settled.
-use Rattle.std.proofs.Common.{◌≡◌, ℕ, ◌+◌, ◌-◌, ◌<◌, ◌≤◌, ◌⊎◌, inl, inr, ◌↔◌, Bool, true, false, Option, None, List, [], ◌∷◌, map, length, drop, slice_index_or, Contains, sym, ap, subst, ◌∙◌, arith}
-use Rattle.std.specs.List.{list_any}
-use Rattle.std.specs.Cmp.{IsEquivalence}
+use Rattle.std.proofs.Common.{◌≡◌, ℕ, ◌+◌, ◌-◌, ◌<◌, ◌≤◌, ◌⊎◌, inl, inr, ◌↔◌, true, false, Option, None, List, [], ◌∷◌, map, length, drop, slice_index_or, Contains, sym, ap, subst, ◌∙◌, arith}
 use Rattle.std.proofs.lemmas.List.{drop_more, drop_all}
 use Rattle.std.proofs.lemmas.List.Elements.{Contains-append_left}
 use Rattle.std.proofs.lemmas.Map.Views.{list_any-from_Contains}
@@ -10,11 +8,12 @@ use Rattle.mast_tbox.specs.declared.axiom.Inclusion.{Inclusion}
 use Rattle.mast_tbox.specs.declared.axiom.Lined.{Lined}
 use Rattle.mast_tbox.specs.declared.expression.Prop.{Prop}
 use Rattle.mast_tbox.specs.declared.groups.Groups.{Groups}
-use Rattle.mast_tbox.specs.Components.{all_ends, turned, Settled, Settles, Begins, chosen, TellsComponents}
+use Rattle.mast_tbox.specs.inside.Components.{all_ends, turned, Settled, SettlesBy, Begins, TellsComponents, next_in}
+use Rattle.mast_tbox.specs.inside.Chosen.{is_in, chosen}
 use Rattle.mast_tbox.specs.Expressions.{same_prop}
-use Rattle.mast_tbox.specs.Groups.{found}
 use Rattle.mast_tbox.specs.Inclusions.{Leads, leading_to}
 use Rattle.mast_tbox.specs.Lists.{items}
+use Rattle.mast_tbox.proofs.EqualityLemmas.{prop_same, prop_equivalence}
 use Rattle.mast_tbox.proofs.MemberLemmas.{none, first_or}
 use Rattle.mast_tbox.proofs.BelowLemmas.{leading_is}
 use Rattle.mast_tbox.proofs.WorkLemmas.{all_has}
@@ -28,10 +27,9 @@ pub record Going (tbox : List Inclusion) (first order : List Prop) (left : ℕ) 
   pub within : left ≤ length order
 
 -- in the beginning none is
-pub going_first : (eq : Prop → Prop → Bool) → ((x y : Prop) → eq x y ≡ true → x ≡ y) → (tbox : List Inclusion) (order free : List Prop) (left : ℕ) (note : Prop → Option Prop) → left ≡ length order → ((p : Prop) → note p ≡ None)
-    → free ≡ insert_all eq [] (all_ends tbox) → Going tbox free order left free note
-going_first eq same tbox order free left note l nothing e = record {
-  settled = settled_first tbox free note nothing (λ p c. subst (λ w. Contains w p) (sym e) (all_has eq same (all_ends tbox) [] p c));
+pub going_first : (tbox : List Inclusion) (order free : List Prop) (left : ℕ) (note : Prop → Option Prop) → left ≡ length order → ((p : Prop) → note p ≡ None) → free ≡ insert_all same_prop [] (all_ends tbox) → Going tbox free order left free note
+going_first tbox order free left note l nothing e = record {
+  settled = settled_first tbox free note nothing (λ p c. subst (λ w. Contains w p) (sym e) (all_has same_prop prop_same (all_ends tbox) [] p c));
   done = λ p c f. none p (subst (λ w. Contains w p) (drop_all left order (omega arith)) c);
   fewer = λ p c. c;
   within = omega arith;
@@ -47,11 +45,11 @@ module _ (tbox : List Inclusion) (first order : List Prop) (left : ℕ) (free : 
       first_or (slice_index_or order (left - 1) d) (drop left order) p (subst (λ v. Contains v p) s c)
 
   -- a root that is settled already is passed
-  pub going_past : (eq : Prop → Prop → Bool) → IsEquivalence eq → (d : Prop) → list_any (eq (slice_index_or order (left - 1) d)) free ≡ false → Going tbox first order (left - 1) free note
-  going_past eq laws d e = record {
+  pub going_past : (d : Prop) → is_in (slice_index_or order (left - 1) d) free ≡ false → Going tbox first order (left - 1) free note
+  going_past d e = record {
     settled = w.settled;
     done = λ p c f. elim (at_root d p c) [
-      | inl g ↦ absurd (let h : true ≡ false = sym (list_any-from_Contains laws (slice_index_or order (left - 1) d) free (subst (Contains free) g f)) ∙ e in cc)
+      | inl g ↦ absurd (let h : true ≡ false = sym (list_any-from_Contains prop_equivalence (slice_index_or order (left - 1) d) free (subst (Contains free) g f)) ∙ e in cc)
       | inr i ↦ w.done p i f
     ];
     fewer = w.fewer;
@@ -60,7 +58,7 @@ module _ (tbox : List Inclusion) (first order : List Prop) (left : ℕ) (free : 
 
   -- and a free one is settled
   pub going_on : (below above : Prop → List Prop) → ((p q : Prop) → Contains (below p) q ↔ Leads tbox q p) → ((p q : Prop) → Contains (above p) q ↔ Leads tbox p q) → (d : Prop) (rest : List Prop) (after : Prop → Option Prop)
-      → Contains free (slice_index_or order (left - 1) d) → Settles below above free note (slice_index_or order (left - 1) d) rest after → Going tbox first order (left - 1) rest after
+      → Contains free (slice_index_or order (left - 1) d) → SettlesBy below above free note (slice_index_or order (left - 1) d) rest after → Going tbox first order (left - 1) rest after
   going_on below above below_is above_is d rest after f s = record {
     settled = settled_next tbox below above below_is above_is free note w.settled (slice_index_or order (left - 1) d) f rest after s;
     done = λ p c i. elim (at_root d p c) [
@@ -78,13 +76,14 @@ going_done tbox first order left free note w z b =
     (λ p f. w.done p (subst (λ k. Contains (drop k order) p) (sym z) (subst (λ v. Contains v p) b.1 (Contains-append_left first b.0 p (w.fewer p f)))) f)
 
 -- the groups of the inclusions are those that lead to a property, and those of the turned ones those to which it leads
-pub below_edges : (eq : Prop → Prop → Bool) → eq ≡ same_prop → (tbox xs : List Inclusion) (g : Groups Prop) → xs ≡ tbox → ((p : Prop) → found same_prop g p ≡ leading_to xs p) → (p q : Prop) → Contains (found eq g p) q ↔ Leads tbox q p
-below_edges eq e tbox xs g x is p q =
-    subst (λ w. Contains w q ↔ Leads tbox q p) (sym (ap (λ t. found t g p) e ∙ (is p ∙ ap (λ w. leading_to w p) x))) (leading_is tbox p q)
+pub below_edges : (tbox xs : List Inclusion) (g : Groups Prop) → xs ≡ tbox → ((p : Prop) → next_in g p ≡ leading_to xs p) → (p q : Prop) → Contains (next_in g p) q ↔ Leads tbox q p
+below_edges tbox xs g x is p q =
+    subst (λ w. Contains w q ↔ Leads tbox q p) (sym (is p ∙ ap (λ w. leading_to w p) x)) (leading_is tbox p q)
 
-pub above_edges : (eq : Prop → Prop → Bool) → eq ≡ same_prop → (lines : List (Lined Inclusion)) (xs : List Inclusion) (g : Groups Prop) → xs ≡ map (λ l. turned l.item) lines → ((p : Prop) → found same_prop g p ≡ leading_to xs p)
-    → (p q : Prop) → Contains (found eq g p) q ↔ Leads (items lines) p q
-above_edges eq e lines xs g x is p q =
-    let h = below_edges eq e (map (λ l. turned l.item) lines) xs g x is p q in
+-- the groups of the turned inclusions are those to which a property leads
+pub above_edges : (lines : List (Lined Inclusion)) (xs : List Inclusion) (g : Groups Prop) → xs ≡ map (λ l. turned l.item) lines → ((p : Prop) → next_in g p ≡ leading_to xs p)
+    → (p q : Prop) → Contains (next_in g p) q ↔ Leads (items lines) p q
+above_edges lines xs g x is p q =
+    let h = below_edges (map (λ l. turned l.item) lines) xs g x is p q in
     let t = leads_turned lines q p in
     (λ c. t.0 (h.0 c), λ l. h.1 (t.1 l))

@@ -33,6 +33,7 @@ module _ (cmp : Atom → Atom → Ordering) (orders : (g h : Atom) → cmp g h �
       subst (λ j. is_lt (cmp (slice_index_or (g ∷ gs) j e) (slice_index_or (g ∷ gs) (suc k) e)) ≡ false) (let f : suc k + 1 ≡ suc (k + 1) = omega arith in f) (s (suc k) e (omega arith) (omega arith)) in
       w
 
+  -- a sorted list of different atoms is in order, each once
   pub sorted_ordered : (gs : List Atom) → IsSorted cmp gs → IsDistinct eq gs → Ordered gs
   unfolding IsDistinct
   sorted_ordered [] s d = tt

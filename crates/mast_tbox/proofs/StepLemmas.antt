@@ -114,5 +114,6 @@ module _ (tbox : List Inclusion) where
   steps_has g h (AtomStep.widens p q x y s eg eh) =
       subst (λ w. Contains (steps_of tbox w) h) (sym eg) (subst (Contains (steps_of tbox (pair q x y))) (sym eh) (widens_has p q x y s))
 
+  -- the list of an atom's steps has exactly the atoms that a step gives
   pub steps_are : (g h : Atom) → Contains (steps_of tbox g) h ↔ AtomStep tbox g h
   steps_are g h = (steps_from g h, steps_has g h)

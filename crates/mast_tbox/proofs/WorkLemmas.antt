@@ -14,6 +14,7 @@ module _ {X : Type 0} {S : X → X → Type 0} where
   reaches_join x y z itself r = r
   reaches_join x y z (onward {y = w} s d) r = onward s (reaches_join w y z d r)
 
+  -- one step more at the end
   pub reaches_more : (x y z : X) → Reaches S x y → S y z → Reaches S x z
   reaches_more x y z r s = reaches_join x y z r (onward s itself)
 
@@ -63,6 +64,7 @@ module _ {X : Type 0} (eq : X → X → Bool) (same : (x y : X) → eq x y ≡ t
   all_extends [] ks = extends_itself ks
   all_extends (x ∷ xs) ks = extends_join ks (insert_key eq ks x) (insert_all eq (insert_key eq ks x) xs) (insert_extends ks x) (all_extends xs (insert_key eq ks x))
 
+  -- what stands in a list after others were inserted was there or is one of them
   pub all_from : (xs ks : List X) (x : X) → Contains (insert_all eq ks xs) x → Contains ks x ⊎ Contains xs x
   all_from [] ks x c = inl c
   all_from (y ∷ xs) ks x c = elim (all_from xs (insert_key eq ks y) x c) [
@@ -70,6 +72,7 @@ module _ {X : Type 0} (eq : X → X → Bool) (same : (x y : X) → eq x y ≡ t
     | inr i ↦ inr (later x y xs i)
   ]
 
+  -- each that was inserted stands there
   pub all_has : (xs ks : List X) (x : X) → Contains xs x → Contains (insert_all eq ks xs) x
   all_has [] ks x c = absurd (none x c)
   all_has (y ∷ xs) ks x c = elim (first_or y xs x c) [
@@ -84,6 +87,7 @@ pub record Worked {X : Type 0} (steps : X → List X) (start : X) (keys : List X
   pub closed : (j : ℕ) (g h : X) → j < done → slice_get keys j ≡ Some g → Contains (steps g) h → Contains keys h
 
 module _ {X : Type 0} (eq : X → X → Bool) (same : (x y : X) → eq x y ≡ true → x ≡ y) (steps : X → List X) (start : X) where
+  -- before any element was worked on, the start alone is there
   pub worked_first : (old new : List X) → length old ≡ 0 → new ≡ insert_key eq old start → Worked steps start new 0
   worked_first [] new z e = record {
     reached = λ m c. subst (Reaches (λ g h. Contains (steps g) h) start) (sym (only_one start m (subst (λ w. Contains w m) e c))) itself;
@@ -92,6 +96,7 @@ module _ {X : Type 0} (eq : X → X → Bool) (same : (x y : X) → eq x y ≡ t
   }
   worked_first (x ∷ xs) new z e = absurd (omega arith)
 
+  -- one element more was worked on
   pub worked_more : (keys new : List X) (done : ℕ) (node : X) → Worked steps start keys done → Some node ≡ slice_get keys done → new ≡ insert_all eq keys (steps node) → done < length keys → Worked steps start new (done + 1)
   worked_more keys new done node w at e within = record {
     reached = λ m c. elim (all_from eq same (steps node) keys m (subst (λ v. Contains v m) e c)) [

@@ -33,13 +33,21 @@ if_blank Blank xs = xs
 if_blank (Var n) xs = []
 if_blank (Constant c) xs = []
 
+-- the atoms that x is in a concept, for each concept of a list
+abbrev pub all_at : List Basic → Arg → List Atom
+all_at basics x = map (λ b. at b x) basics
+
+-- the atoms that x and y are a pair of a property, for each property of a list
+abbrev pub all_pairs : List Prop → Arg → Arg → List Atom
+all_pairs props x y = map (λ p. pair p x y) props
+
 -- the atoms that x is in a concept, for concepts directly below one
 abbrev pub members : List Inclusion → Basic → Arg → List Atom
-members tbox b x = map (λ c. at c x) (directly_below tbox b)
+members tbox b x = all_at (directly_below tbox b) x
 
 -- the atoms that x and y are a pair of a property, for properties that lead to one
 abbrev pub narrower : List Inclusion → Prop → Arg → Arg → List Atom
-narrower tbox q x y = map (λ p. pair p x y) (leading_to tbox q)
+narrower tbox q x y = all_pairs (leading_to tbox q) x y
 
 -- what the steps on an atom give
 abbrev pub steps_of : List Inclusion → Atom → List Atom

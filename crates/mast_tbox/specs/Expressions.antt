@@ -43,19 +43,21 @@ at (BClass a) x = Class a x
 at (BSome r) x = pair (PRole r) x Blank
 at (Subjects a) x = pair (PAttr a) x Blank
 
--- two expressions are the same
+-- two role expressions are the same
 abbrev pub same_role : RoleExpr → RoleExpr → Bool
 same_role (Direct p) (Direct q) = nat_eq p.0 q.0
 same_role (Direct p) (Inverse q) = false
 same_role (Inverse p) (Direct q) = false
 same_role (Inverse p) (Inverse q) = nat_eq p.0 q.0
 
+-- two properties are the same
 abbrev pub same_prop : Prop → Prop → Bool
 same_prop (PRole r) (PRole s) = same_role r s
 same_prop (PRole r) (PAttr b) = false
 same_prop (PAttr a) (PRole s) = false
 same_prop (PAttr a) (PAttr b) = nat_eq a.0 b.0
 
+-- two basic concepts are the same
 abbrev pub same_basic : Basic → Basic → Bool
 same_basic (BClass a) (BClass b) = nat_eq a.0 b.0
 same_basic (BClass a) (BSome s) = false

@@ -9,13 +9,15 @@ use Rattle.mast_tbox.specs.declared.expression.Prop.{Prop}
 use Rattle.mast_tbox.specs.declared.expression.RoleExpr.{RoleExpr}
 use Rattle.mast_tbox.specs.declared.axiom.Inclusion.{Inclusion}
 use Rattle.mast_tbox.specs.declared.axiom.Inclusion.TheVariants.{Exists}
+use Rattle.mast_tbox.specs.declared.axiom.Lined.{Lined}
+use Rattle.mast_tbox.specs.declared.constraint.Constraint.{Constraint}
 use Rattle.mast_tbox.specs.Arguments.{HaveSameArguments}
 use Rattle.mast_tbox.specs.Closure.{AtomStep, Down}
 use Rattle.mast_tbox.specs.Inclusions.{normal}
 use Rattle.mast_tbox.specs.Names.{AtomInRange, PropInRange}
 use Rattle.mast_tbox.specs.Numbers.{number_of}
 use Rattle.mast_tbox.specs.Properties.{IsBelow, AreEquivalent}
-use Rattle.mast_tbox.specs.Restrictions.{IsSpecialised}
+use Rattle.mast_tbox.specs.Restrictions.{IsSpecialised, IsRestrictionBreach}
 
 -- the statement holds, or it does not
 abbrev pub Decided : Type 0 → Type 0
@@ -103,3 +105,9 @@ EquivalentAgrees tbox = (p q : Prop) → PropInRange p → PropInRange q → Are
 -- and a property is specialised by the one where it is by the other
 abbrev pub SpecialisedAgrees : List Inclusion → Type 0
 SpecialisedAgrees tbox = (p : Prop) → PropInRange p → IsSpecialised tbox p ↔ IsSpecialised (normal tbox) p
+
+-- axioms and constraints have one restriction breach or none, and always one of these
+abbrev pub BreachLaw : Type 0
+BreachLaw =
+    (inclusions : List (Lined Inclusion)) (functional : List (Lined Prop)) (constraints : List (Lined Constraint))
+    → HasOneAnswer (IsRestrictionBreach inclusions functional constraints)

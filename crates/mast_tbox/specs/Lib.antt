@@ -7,7 +7,6 @@ pub mod Names
 pub mod Arguments
 pub mod Closure
 pub mod Properties
-pub mod Components
 pub mod Restrictions
-pub mod Judging
 pub mod Laws
+pub mod inside

@@ -57,6 +57,7 @@ single [] = None
 single (p ∷ []) = Some p
 single (p ∷ q ∷ more) = None
 
+-- the property, if there is one, and then the list
 abbrev pub with_first : Option Prop → List Prop → List Prop
 with_first None ps = ps
 with_first (Some p) ps = p ∷ ps

@@ -1,31 +1,29 @@
 //! The components of properties: those that are equivalent to one another.
-ghost use Rattle.std.specs.Prelude.{◌≡◌, ◌↔◌, [], map, Contains, IfOk, OnOk};
+ghost use Rattle.std.specs.Prelude.{◌≡◌, [], map, IfOk, OnOk};
 ghost use Rattle.std.specs.List.{filter};
-ghost use Rattle.indexmap.specs.IndexMap.{get};
-ghost use Rattle.indexmap.specs.IndexSet.{insert_all, contains};
-ghost use Rattle.mast_tbox.specs.Components.{turned as turned_of, ends, all_ends, Begins, Inside, Settles, noted, kept, chief as chief_of, TellsComponents};
-ghost use Rattle.mast_tbox.specs.Groups.{found};
-ghost use Rattle.mast_tbox.specs.Lists.{Reaches, items};
-ghost use Rattle.mast_tbox.specs.declared.expression.Prop.{Prop};
+ghost use Rattle.indexmap.specs.IndexSet.{insert_all};
+ghost use Rattle.mast_tbox.specs.Expressions.{same_prop};
+ghost use Rattle.mast_tbox.specs.Lists.{items};
+ghost use Rattle.mast_tbox.specs.inside.Chosen.{is_in, chief_of};
+ghost use Rattle.mast_tbox.specs.inside.Components.{turned as turned_of, ends, all_ends, Begins, next_in, HasReached, Settles, AreNoted, AreClosed, TellsComponents};
 
+use crate::chiefs::Chiefs;
 use crate::expression::prop_laws;
 use crate::groups::Groups;
 use crate::index::props_below;
+use crate::prop_set::PropSet;
 use crate::{Inclusion, Lined, Prop};
-use indexmap::{IndexMap, IndexSet};
 use mast_terms::NoMemory;
 use std::alloc::Global;
 
-/// For each property a chief: two have one chief exactly where they are equivalent. A property that is not noted is its own.
+/// For each property a chief: two have one chief exactly where they are equivalent. A property that is not noted is its
+/// own.
 ///
 /// Each component is what lies below a root and above it too, among the properties that are still free. The roots come
-/// against the order in which a search upwards finishes. Then what is free and lies below a root is its component, so each
-/// inclusion is looked at a fixed number of times.
-pub(crate) fn components(
-    alloc: Global,
-    lines: &[Lined<Inclusion>],
-) -> Result<IndexMap<Prop, Prop>, NoMemory>
-    ensures { IfOk result (λ chiefs. TellsComponents (items lines.now) (chief_of ⟦<Prop as PartialEq>⟧.eq chiefs)) }
+/// against the order in which a search upwards finishes. Then what is free and lies below a root is its component, so
+/// each inclusion is looked at a fixed number of times. That is no clause: the order decides the time alone.
+pub(crate) fn components(alloc: Global, lines: &[Lined<Inclusion>]) -> Result<Chiefs, NoMemory>
+    ensures { IfOk result (λ chiefs. TellsComponents (items lines.now) (chief_of chiefs)) }
 {
     prop_laws();
     let stated = stated(alloc, lines)?;
@@ -34,27 +32,17 @@ pub(crate) fn components(
     let above = props_below(alloc, &turned)?;
     let mut free = nodes(alloc, &stated)?;
     let order = finished(alloc, &above, free.as_slice())?;
-    let mut chiefs = IndexMap::new(alloc);
+    let mut chiefs = Chiefs::new(alloc);
     let mut left = order.len();
     while left > 0 {
         left -= 1;
         let root = order[left];
-        if !free.contains(&root) {
+        if !free.contains(root) {
             continue;
         }
         settle(alloc, &below, &above, &mut free, &mut chiefs, root)?;
     }
     Ok(chiefs)
-}
-
-/// The chief of a property.
-pub(crate) fn chief(chiefs: &IndexMap<Prop, Prop>, prop: Prop) -> Prop
-    ensures { result ≡ chief_of ⟦<Prop as PartialEq>⟧.eq chiefs.now prop }
-{
-    match chiefs.get(&prop) {
-        Some(found) => *found,
-        None => prop,
-    }
 }
 
 fn stated(alloc: Global, lines: &[Lined<Inclusion>]) -> Result<Vec<Inclusion>, NoMemory>
@@ -89,18 +77,18 @@ fn turned_one(inclusion: Inclusion) -> Inclusion
 }
 
 // The properties between which inclusions lead.
-fn nodes(alloc: Global, inclusions: &[Inclusion]) -> Result<IndexSet<Prop>, NoMemory>
-    ensures { IfOk result (λ set. set.keys ≡ insert_all ⟦<Prop as PartialEq>⟧.eq [] (all_ends inclusions.now)) }
+fn nodes(alloc: Global, inclusions: &[Inclusion]) -> Result<PropSet, NoMemory>
+    ensures { IfOk result (λ set. set ≡ insert_all same_prop [] (all_ends inclusions.now)) }
 {
-    let mut set = IndexSet::new(alloc);
+    let mut set = PropSet::new(alloc);
     for inclusion in inclusions {
         add_ends(&mut set, *inclusion)?;
     }
     Ok(set)
 }
 
-fn add_ends(set: &mut IndexSet<Prop>, inclusion: Inclusion) -> Result<(), NoMemory>
-    ensures { OnOk result (set.new.keys ≡ insert_all ⟦<Prop as PartialEq>⟧.eq set.old.keys (ends inclusion)) }
+fn add_ends(set: &mut PropSet, inclusion: Inclusion) -> Result<(), NoMemory>
+    ensures { OnOk result (set.new ≡ insert_all same_prop set.old (ends inclusion)) }
 {
     match inclusion {
         Inclusion::Role { sub, sup } => {
@@ -126,13 +114,13 @@ struct Visit {
     next: usize,
 }
 
-// The properties, and after them all of them again in the order in which a search finishes them. Which order it is decides
-// the time alone.
+// The properties, and after them all of them again in the order in which a search finishes them. Which order it is
+// decides the time alone.
 fn finished(alloc: Global, edges: &Groups<Prop>, nodes: &[Prop]) -> Result<Vec<Prop>, NoMemory>
     ensures { IfOk result (λ v. Begins nodes.now v.items) }
 {
     let mut order = nodes.iter().copied().collect(alloc)?;
-    let mut seen = IndexSet::new(alloc);
+    let mut seen = PropSet::new(alloc);
     let mut stack = Vec::new(alloc);
     for node in nodes {
         search(edges, &mut seen, &mut stack, &mut order, *node)?;
@@ -142,7 +130,7 @@ fn finished(alloc: Global, edges: &Groups<Prop>, nodes: &[Prop]) -> Result<Vec<P
 
 fn search(
     edges: &Groups<Prop>,
-    seen: &mut IndexSet<Prop>,
+    seen: &mut PropSet,
     stack: &mut Vec<Visit>,
     order: &mut Vec<Prop>,
     node: Prop,
@@ -167,7 +155,7 @@ fn search(
 // One step of a search: on to the next property, or back from one that is finished.
 fn go_on(
     edges: &Groups<Prop>,
-    seen: &mut IndexSet<Prop>,
+    seen: &mut PropSet,
     stack: &mut Vec<Visit>,
     order: &mut Vec<Prop>,
     visit: Visit,
@@ -196,13 +184,12 @@ fn settle(
     alloc: Global,
     below: &Groups<Prop>,
     above: &Groups<Prop>,
-    free: &mut IndexSet<Prop>,
-    chiefs: &mut IndexMap<Prop, Prop>,
+    free: &mut PropSet,
+    chiefs: &mut Chiefs,
     root: Prop,
 ) -> Result<(), NoMemory>
-    ensures { let same = ⟦<Prop as PartialEq>⟧.eq in OnOk result (Settles (found same below.now) (found same above.now) free.old.keys (get same chiefs.old) root free.new.keys (get same chiefs.new)) }
+    ensures { OnOk result (Settles below.now above.now free.old chiefs.old root free.new chiefs.new) }
 {
-    prop_laws();
     let under = reached(alloc, below, free, root)?;
     let same = reached(alloc, above, &under, root)?;
     note(free, chiefs, same.as_slice(), root)?;
@@ -213,17 +200,17 @@ fn settle(
 fn reached(
     alloc: Global,
     edges: &Groups<Prop>,
-    within: &IndexSet<Prop>,
+    within: &PropSet,
     start: Prop,
-) -> Result<IndexSet<Prop>, NoMemory>
-    ensures { IfOk result (λ set. (p : Prop) → Contains set.keys p ↔ Reaches (Inside within.now.keys (found ⟦<Prop as PartialEq>⟧.eq edges.now)) start p) }
+) -> Result<PropSet, NoMemory>
+    ensures { IfOk result (HasReached (next_in edges.now) within.now start) }
 {
     prop_laws();
-    let mut set = IndexSet::new(alloc);
+    let mut set = PropSet::new(alloc);
     set.insert(start)?;
     for done in 0..usize::MAX {
-        let next = match set.get_index(done) {
-            Some(next) => *next,
+        let next = match set.get(done) {
+            Some(next) => next,
             None => return Ok(set),
         };
         add_within(&mut set, edges.get(next), within)?;
@@ -233,15 +220,11 @@ fn reached(
 }
 
 // Adds those of the properties that stand in a set.
-fn add_within(
-    set: &mut IndexSet<Prop>,
-    props: &[Prop],
-    within: &IndexSet<Prop>,
-) -> Result<(), NoMemory>
-    ensures { let same = ⟦<Prop as PartialEq>⟧.eq in OnOk result (set.new.keys ≡ insert_all same set.old.keys (filter (contains same within.now) props.now)) }
+fn add_within(set: &mut PropSet, props: &[Prop], within: &PropSet) -> Result<(), NoMemory>
+    ensures { OnOk result (set.new ≡ insert_all same_prop set.old (filter (λ p. is_in p within.now) props.now)) }
 {
     for prop in props {
-        if within.contains(prop) {
+        if within.contains(*prop) {
             set.insert(*prop)?;
         }
     }
@@ -249,18 +232,13 @@ fn add_within(
 }
 
 // Notes a root as the chief of properties, and takes them from the free ones.
-fn note(
-    free: &mut IndexSet<Prop>,
-    chiefs: &mut IndexMap<Prop, Prop>,
-    props: &[Prop],
-    root: Prop,
-) -> Result<(), NoMemory>
-    ensures noted { let same = ⟦<Prop as PartialEq>⟧.eq in OnOk result ((p : Prop) → get same chiefs.new p ≡ noted same root props.now p (get same chiefs.old p)) }
-    ensures closed { let same = ⟦<Prop as PartialEq>⟧.eq in OnOk result ((p : Prop) → contains same free.new p ≡ kept same props.now p (contains same free.old p)) }
+fn note(free: &mut PropSet, chiefs: &mut Chiefs, props: &[Prop], root: Prop) -> Result<(), NoMemory>
+    ensures noted { OnOk result (AreNoted root props.now chiefs.old chiefs.new) }
+    ensures closed { OnOk result (AreClosed props.now free.old free.new) }
 {
     for prop in props {
-        chiefs.insert(*prop, root)?;
-        let _ = free.swap_remove(prop);
+        chiefs.note(*prop, root)?;
+        free.remove(*prop);
     }
     Ok(())
 }

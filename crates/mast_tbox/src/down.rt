@@ -1,10 +1,9 @@
 //! What is below an atom.
-ghost use Rattle.std.specs.Prelude.{◌≡◌, ◌↔◌, map, Contains, IfOk, OnOk};
-ghost use Rattle.indexmap.specs.IndexSet.{insert_all};
+ghost use Rattle.std.specs.Prelude.{◌≡◌, ◌↔◌, Contains, IfOk, OnOk};
 ghost use Rattle.mast_cq.specs.declared.atom.Atom.{Atom};
 ghost use Rattle.mast_cq.specs.NormalForms.{Ordered};
-ghost use Rattle.mast_tbox.specs.Closure.{Down, steps_of, if_blank};
-ghost use Rattle.mast_tbox.specs.Expressions.{at, pair};
+ghost use Rattle.mast_tbox.specs.Closure.{Down, steps_of, if_blank, all_at, all_pairs};
+ghost use Rattle.mast_tbox.specs.inside.Chosen.{AreAdded};
 
 use crate::{Basic, NormalTBox, Prop, RoleExpr};
 use indexmap::IndexSet;
@@ -13,8 +12,8 @@ use mast_terms::{List, NoMemory};
 use std::alloc::Global;
 
 impl NormalTBox {
-    /// `Down` of an atom: the least set of atoms that holds it and is closed under the steps by inclusions. The atoms come
-    /// in their order, each once.
+    /// `Down` of an atom: the least set of atoms that holds it and is closed under the steps by inclusions. The atoms
+    /// come in their order, each once.
     ///
     /// A step looks up the right side that it needs, so the work is that of the atoms given and of their order.
     pub fn down(&self, alloc: Global, atom: Atom) -> Result<List<Atom>, NoMemory>
@@ -47,7 +46,7 @@ impl NormalTBox {
 
     // Adds what the steps on an atom give.
     fn add_steps(&self, set: &mut IndexSet<Atom>, atom: Atom) -> Result<(), NoMemory>
-        ensures { OnOk result (set.new.keys ≡ insert_all ⟦<Atom as PartialEq>⟧.eq set.old.keys (steps_of self.now atom)) }
+        ensures { OnOk result (AreAdded ⟦<Atom as PartialEq>⟧.eq (steps_of self.now atom) set.old set.new) }
     {
         match atom {
             Atom::Class { name, arg } => add_members(set, self.below(Basic::Class(name)), arg),
@@ -79,7 +78,7 @@ fn add_if_blank(
     basics: &[Basic],
     arg: Arg,
 ) -> Result<(), NoMemory>
-    ensures { OnOk result (set.new.keys ≡ insert_all ⟦<Atom as PartialEq>⟧.eq set.old.keys (if_blank other (map (λ b. at b arg) basics.now))) }
+    ensures { OnOk result (AreAdded ⟦<Atom as PartialEq>⟧.eq (if_blank other (all_at basics.now arg)) set.old set.new) }
 {
     match other {
         Arg::Blank => add_members(set, basics, arg),
@@ -88,7 +87,7 @@ fn add_if_blank(
 }
 
 fn add_members(set: &mut IndexSet<Atom>, basics: &[Basic], arg: Arg) -> Result<(), NoMemory>
-    ensures { OnOk result (set.new.keys ≡ insert_all ⟦<Atom as PartialEq>⟧.eq set.old.keys (map (λ b. at b arg) basics.now)) }
+    ensures { OnOk result (AreAdded ⟦<Atom as PartialEq>⟧.eq (all_at basics.now arg) set.old set.new) }
 {
     for basic in basics {
         set.insert(basic.at(arg))?;
@@ -97,7 +96,7 @@ fn add_members(set: &mut IndexSet<Atom>, basics: &[Basic], arg: Arg) -> Result<(
 }
 
 fn add_pairs(set: &mut IndexSet<Atom>, props: &[Prop], from: Arg, to: Arg) -> Result<(), NoMemory>
-    ensures { OnOk result (set.new.keys ≡ insert_all ⟦<Atom as PartialEq>⟧.eq set.old.keys (map (λ p. pair p from to) props.now)) }
+    ensures { OnOk result (AreAdded ⟦<Atom as PartialEq>⟧.eq (all_pairs props.now from to) set.old set.new) }
 {
     for prop in props {
         set.insert(prop.pair(from, to))?;

@@ -1,9 +1,8 @@
 //! The indices of inclusions by their right sides.
 ghost use Rattle.std.specs.Prelude.{◌≡◌, [], ◌∷◌, IfOk, OnOk};
-ghost use Rattle.indexmap.specs.IndexSet.{insert_all};
 ghost use Rattle.mast_tbox.specs.Expressions.{same_basic, same_prop};
-ghost use Rattle.mast_tbox.specs.Inclusions.{concept_pairs, prop_pairs, firsts, directly_below, leading_to};
-ghost use Rattle.mast_tbox.specs.Groups.{found};
+ghost use Rattle.mast_tbox.specs.Inclusions.{concept_pairs, prop_pairs, directly_below, leading_to};
+ghost use Rattle.mast_tbox.specs.Groups.{found, AreGrown};
 ghost use Rattle.mast_tbox.specs.declared.expression.Basic.{Basic};
 ghost use Rattle.mast_tbox.specs.declared.expression.Prop.{Prop};
 
@@ -34,7 +33,7 @@ fn add_concepts(
     groups: &mut Groups<Basic>,
     inclusion: Inclusion,
 ) -> Result<(), NoMemory>
-    ensures { OnOk result ((b : Basic) → found same_basic groups.new b ≡ insert_all same_basic (found same_basic groups.old b) (firsts same_basic b (concept_pairs inclusion))) }
+    ensures { OnOk result (AreGrown same_basic groups.old (concept_pairs inclusion) groups.new) }
 {
     match inclusion {
         Inclusion::Class { sub, sup } => add_concept(alloc, groups, sub, Basic::Class(sup)),
@@ -64,7 +63,7 @@ fn add_concept(
     sub: Basic,
     sup: Basic,
 ) -> Result<(), NoMemory>
-    ensures { OnOk result ((b : Basic) → found same_basic groups.new b ≡ insert_all same_basic (found same_basic groups.old b) (firsts same_basic b ((sub, sup) ∷ []))) }
+    ensures { OnOk result (AreGrown same_basic groups.old ((sub, sup) ∷ []) groups.new) }
 {
     basic_laws();
     groups.add(alloc, sup, sub)
@@ -84,7 +83,7 @@ pub(crate) fn props_below(alloc: Global, inclusions: &[Inclusion]) -> Result<Gro
 
 // Adds the properties from which one inclusion leads.
 fn add_props(alloc: Global, groups: &mut Groups<Prop>, inclusion: Inclusion) -> Result<(), NoMemory>
-    ensures { OnOk result ((p : Prop) → found same_prop groups.new p ≡ insert_all same_prop (found same_prop groups.old p) (firsts same_prop p (prop_pairs inclusion))) }
+    ensures { OnOk result (AreGrown same_prop groups.old (prop_pairs inclusion) groups.new) }
 {
     match inclusion {
         Inclusion::Role { sub, sup } => {
@@ -102,7 +101,7 @@ fn add_props(alloc: Global, groups: &mut Groups<Prop>, inclusion: Inclusion) -> 
 }
 
 fn add_prop(alloc: Global, groups: &mut Groups<Prop>, sub: Prop, sup: Prop) -> Result<(), NoMemory>
-    ensures { OnOk result ((p : Prop) → found same_prop groups.new p ≡ insert_all same_prop (found same_prop groups.old p) (firsts same_prop p ((sub, sup) ∷ []))) }
+    ensures { OnOk result (AreGrown same_prop groups.old ((sub, sup) ∷ []) groups.new) }
 {
     prop_laws();
     groups.add(alloc, sup, sub)

@@ -3,25 +3,24 @@ ghost use Rattle.std.specs.Prelude.{List, Contains, ◌↔◌};
 ghost use Rattle.mast_cq.specs.declared.atom.Atom.{Atom};
 ghost use Rattle.mast_tbox.specs.Closure.{AtomStep, Down};
 ghost use Rattle.mast_tbox.specs.Expressions.{inverse};
-ghost use Rattle.mast_tbox.specs.Inclusions.{normal as normal_inclusions, directly_below, IsDirectlyBelow};
-ghost use Rattle.mast_tbox.specs.Laws.{Decided, IsDecided, IsReflexive, IsTransitive, IsSymmetric, IsKeptBy, IsFinite, HasOneAnswer, NumbersDiffer, HasNoEnd, IsClosed, IsLeast, KeepsArguments, KeepsVariables, KeepsTwice, KeepsSorts, KeepsRange, BelowAgrees, EquivalentAgrees, SpecialisedAgrees};
+ghost use Rattle.mast_tbox.specs.Inclusions.{normal, directly_below, IsDirectlyBelow};
+ghost use Rattle.mast_tbox.specs.Laws.{Decided, IsDecided, IsReflexive, IsTransitive, IsSymmetric, IsKeptBy, IsFinite, NumbersDiffer, HasNoEnd, IsClosed, IsLeast, KeepsArguments, KeepsVariables, KeepsTwice, KeepsSorts, KeepsRange, BelowAgrees, EquivalentAgrees, SpecialisedAgrees, BreachLaw};
 ghost use Rattle.mast_tbox.specs.Lists.{Reaches, items};
 ghost use Rattle.mast_tbox.specs.Names.{AreInRange};
 ghost use Rattle.mast_tbox.specs.Numbers.{IsNumbered};
 ghost use Rattle.mast_tbox.specs.Properties.{IsBelow, AreEquivalent};
-ghost use Rattle.mast_tbox.specs.Restrictions.{IsSpecialised, IsRestrictionBreach};
+ghost use Rattle.mast_tbox.specs.Restrictions.{IsSpecialised};
 ghost use Rattle.mast_tbox.specs.declared.expression.Basic.{Basic};
 ghost use Rattle.mast_tbox.specs.declared.expression.Prop.{Prop};
 ghost use Rattle.mast_tbox.specs.declared.axiom.Inclusion.{Inclusion};
 ghost use Rattle.mast_tbox.specs.declared.axiom.Lined.{Lined};
-ghost use Rattle.mast_tbox.specs.declared.constraint.Constraint.{Constraint};
 
-/// Each number is of one inclusion, among the inclusions of a TBox and among its normal ones. A normal inclusion that adds
-/// a filler says nothing of its class.
+/// Each number is of one inclusion, among the inclusions of a TBox and among its normal ones. A normal inclusion that
+/// adds a filler says nothing of its class.
 pub fn number_law()
     ensures stated { (lines : List (Lined Inclusion)) → IsNumbered lines → NumbersDiffer (items lines) }
-    ensures normal { (lines : List (Lined Inclusion)) → IsNumbered lines → NumbersDiffer (normal_inclusions (items lines)) }
-    ensures end { (tbox : List Inclusion) → HasNoEnd (normal_inclusions tbox) }
+    ensures normal { (lines : List (Lined Inclusion)) → IsNumbered lines → NumbersDiffer (normal (items lines)) }
+    ensures end { (tbox : List Inclusion) → HasNoEnd (normal tbox) }
 {}
 
 /// The list of the basic concepts directly below one has exactly these.
@@ -29,8 +28,8 @@ pub fn below_law()
     ensures { (tbox : List Inclusion) (b c : Basic) → Contains (directly_below tbox b) c ↔ IsDirectlyBelow tbox c b }
 {}
 
-/// `Down` of an atom holds the atom, is closed under the steps by inclusions, and is the least such set among those that a
-/// test gives. Whether an atom stands in it is decided, and a list has exactly its members.
+/// `Down` of an atom holds the atom, is closed under the steps by inclusions, and is the least such set among those that
+/// a test gives. Whether an atom stands in it is decided, and a list has exactly its members.
 pub fn down_law()
     ensures itself { (tbox : List Inclusion) → IsReflexive (Down tbox) }
     ensures closed { (tbox : List Inclusion) (g : Atom) → IsClosed tbox (Down tbox g) }
@@ -40,8 +39,8 @@ pub fn down_law()
     ensures finite { (tbox : List Inclusion) (g : Atom) → IsFinite (Down tbox g) }
 {}
 
-/// What `Down` keeps of an atom: its arguments, but for `_`, each with its sort; the variables that occur in it and that
-/// stand in both its places; that each argument of a query has one sort; and names in range.
+/// What `Down` keeps of an atom: its arguments, but for `_`, each with its sort; the variables that occur in it and
+/// that stand in both its places; that each argument of a query has one sort; and names in range.
 pub fn member_law()
     ensures arguments { (tbox : List Inclusion) → KeepsArguments tbox }
     ensures variables { (tbox : List Inclusion) → KeepsVariables tbox }
@@ -82,5 +81,5 @@ pub fn stated_law()
 
 /// Axioms and constraints have one restriction breach, or none: there always is such an answer, and no other.
 pub fn one_breach_law()
-    ensures { (inclusions : List (Lined Inclusion)) (functional : List (Lined Prop)) (constraints : List (Lined Constraint)) → HasOneAnswer (IsRestrictionBreach inclusions functional constraints) }
+    ensures { BreachLaw }
 {}

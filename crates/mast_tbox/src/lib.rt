@@ -1,10 +1,12 @@
 //! Axioms and constraints, the normal inclusions, what is below an atom, and the restrictions.
-//! What the crates above rest on: `normal` gives the normal inclusions, `down` all of `Down` of an atom, `restriction_breach` the first breach.
-//! The words of its contracts stand in specs/Inclusions.antt, specs/Numbers.antt, specs/Closure.antt, specs/Properties.antt and specs/Restrictions.antt.
+//! What the crates above rest on: `normal` gives the normal inclusions, `down` all of `Down` of an atom, `restriction_breach`
+//! the first breach. The words of its contracts stand in specs/Inclusions.antt, specs/Closure.antt, specs/Properties.antt and
+//! specs/Restrictions.antt, those of its laws in specs/Laws.antt.
 //! It must not know how documents are read, nor of facts, queries with several atoms, or the meaning of an inclusion.
 #![tactic(auto)]
 
 mod axiom;
+mod chiefs;
 mod components;
 mod constraint;
 mod down;
@@ -13,6 +15,7 @@ mod groups;
 mod index;
 mod laws;
 mod normal_inclusions;
+mod prop_set;
 mod restriction;
 mod tbox;
 
@@ -26,6 +29,3 @@ pub use laws::{
 pub use normal_inclusions::{NormalTBox, normal};
 pub use restriction::{RestrictionBreach, RestrictionKind, restriction_breach};
 pub use tbox::{Ontology, TBox};
-
-#[cfg(test)]
-mod tests;

@@ -1,16 +1,15 @@
 //! The restrictions under which the answers are the certain ones.
-ghost use Rattle.std.specs.Prelude.{◌≡◌, [], map, false, IfOk, OnOk};
-ghost use Rattle.indexmap.specs.IndexSet.{insert_all, contains};
-ghost use Rattle.mast_tbox.specs.Components.{chief as chief_of};
-ghost use Rattle.mast_tbox.specs.Judging.{narrowed as narrowed_of, all_narrowed, made_functional as made_functional_of, functionals, is_like as is_like_of, passes, first_line, judged, breach_kind as breach_kind_of, first_judged, step_prop as step_prop_of};
+ghost use Rattle.std.specs.Prelude.{◌≡◌, ◌++◌, [], false, IfOk, OnOk};
 ghost use Rattle.mast_tbox.specs.Lists.{items};
 ghost use Rattle.mast_tbox.specs.Restrictions.{along, single, anchors, with_first, IsRestrictionBreach};
-ghost use Rattle.mast_tbox.specs.declared.expression.Prop.{Prop};
+ghost use Rattle.mast_tbox.specs.inside.Chosen.{chief_of};
+ghost use Rattle.mast_tbox.specs.inside.Judging.{narrowed as narrowed_of, all_narrowed, made_functional as made_functional_of, functionals, marking, marked, is_like as is_like_of, narrows, first_line, judged, breach_kind as breach_kind_of, first_judged, step_prop as step_prop_of};
 
-use crate::components::{chief, components};
+use crate::chiefs::Chiefs;
+use crate::components::components;
 use crate::expression::prop_laws;
+use crate::prop_set::PropSet;
 use crate::{Constraint, Inclusion, Lined, Prop, Step, TBox};
-use indexmap::{IndexMap, IndexSet};
 use mast_terms::{List, NoMemory};
 use mast_tree::DocName;
 use std::alloc::Global;
@@ -46,7 +45,6 @@ pub fn restriction_breach(
 ) -> Result<Option<RestrictionBreach>, NoMemory>
     ensures { IfOk result (IsRestrictionBreach tbox.now.inclusions tbox.now.functional constraints.now) }
 {
-    prop_laws();
     let lines = tbox.inclusions.as_slice();
     let chiefs = components(alloc, lines)?;
     let functional = functional(alloc, &chiefs, tbox.functional.as_slice(), constraints)?;
@@ -66,37 +64,33 @@ pub fn restriction_breach(
 // The chiefs of the functional properties.
 fn functional(
     alloc: Global,
-    chiefs: &IndexMap<Prop, Prop>,
+    chiefs: &Chiefs,
     lines: &[Lined<Prop>],
     constraints: &[Lined<Constraint>],
-) -> Result<IndexSet<Prop>, NoMemory>
-    ensures { let same = ⟦<Prop as PartialEq>⟧.eq in let f = chief_of same chiefs.now in IfOk result (λ set. set.keys ≡ insert_all same (insert_all same [] (map f (items lines.now))) (map f (functionals constraints.now))) }
+) -> Result<PropSet, NoMemory>
+    ensures { IfOk result (λ set. set ≡ marked (chief_of chiefs.now) (items lines.now ++ functionals constraints.now)) }
 {
     let mut set = by_axioms(alloc, chiefs, lines)?;
     add_by_constraints(&mut set, chiefs, constraints)?;
     Ok(set)
 }
 
-fn by_axioms(
-    alloc: Global,
-    chiefs: &IndexMap<Prop, Prop>,
-    lines: &[Lined<Prop>],
-) -> Result<IndexSet<Prop>, NoMemory>
-    ensures { let same = ⟦<Prop as PartialEq>⟧.eq in let f = chief_of same chiefs.now in IfOk result (λ set. set.keys ≡ insert_all same [] (map f (items lines.now))) }
+fn by_axioms(alloc: Global, chiefs: &Chiefs, lines: &[Lined<Prop>]) -> Result<PropSet, NoMemory>
+    ensures { IfOk result (λ set. set ≡ marked (chief_of chiefs.now) (items lines.now)) }
 {
-    let mut set = IndexSet::new(alloc);
+    let mut set = PropSet::new(alloc);
     for line in lines {
-        set.insert(chief(chiefs, line.item))?;
+        set.insert(chiefs.chief(line.item))?;
     }
     Ok(set)
 }
 
 fn add_by_constraints(
-    set: &mut IndexSet<Prop>,
-    chiefs: &IndexMap<Prop, Prop>,
+    set: &mut PropSet,
+    chiefs: &Chiefs,
     constraints: &[Lined<Constraint>],
 ) -> Result<(), NoMemory>
-    ensures { let same = ⟦<Prop as PartialEq>⟧.eq in let f = chief_of same chiefs.now in OnOk result (set.new.keys ≡ insert_all same set.old.keys (map f (functionals constraints.now))) }
+    ensures { OnOk result (set.new ≡ marking (chief_of chiefs.now) set.old (functionals constraints.now)) }
 {
     for line in constraints {
         add_chief(set, chiefs, made_functional(&line.item))?;
@@ -113,15 +107,11 @@ fn made_functional(constraint: &Constraint) -> Option<Prop>
     }
 }
 
-fn add_chief(
-    set: &mut IndexSet<Prop>,
-    chiefs: &IndexMap<Prop, Prop>,
-    prop: Option<Prop>,
-) -> Result<(), NoMemory>
-    ensures { let same = ⟦<Prop as PartialEq>⟧.eq in let f = chief_of same chiefs.now in OnOk result (set.new.keys ≡ insert_all same set.old.keys (map f (with_first prop []))) }
+fn add_chief(set: &mut PropSet, chiefs: &Chiefs, prop: Option<Prop>) -> Result<(), NoMemory>
+    ensures { OnOk result (set.new ≡ marking (chief_of chiefs.now) set.old (with_first prop [])) }
 {
     if let Some(found) = prop {
-        set.insert(chief(chiefs, found))?;
+        set.insert(chiefs.chief(found))?;
     }
     Ok(())
 }
@@ -129,12 +119,12 @@ fn add_chief(
 // The chiefs of the properties that inclusions specialise.
 fn specialised(
     alloc: Global,
-    chiefs: &IndexMap<Prop, Prop>,
+    chiefs: &Chiefs,
     lines: &[Lined<Inclusion>],
-) -> Result<IndexSet<Prop>, NoMemory>
-    ensures { let same = ⟦<Prop as PartialEq>⟧.eq in let f = chief_of same chiefs.now in IfOk result (λ set. set.keys ≡ insert_all same [] (map f (all_narrowed same f lines.now))) }
+) -> Result<PropSet, NoMemory>
+    ensures { IfOk result (λ set. set ≡ marked (chief_of chiefs.now) (all_narrowed (chief_of chiefs.now) lines.now)) }
 {
-    let mut set = IndexSet::new(alloc);
+    let mut set = PropSet::new(alloc);
     for line in lines {
         add_chief(&mut set, chiefs, narrowed(chiefs, line.item))?;
     }
@@ -142,9 +132,10 @@ fn specialised(
 }
 
 // The property that an inclusion specialises, among others that are equivalent to it or to its inverse.
-fn narrowed(chiefs: &IndexMap<Prop, Prop>, inclusion: Inclusion) -> Option<Prop>
-    ensures { let same = ⟦<Prop as PartialEq>⟧.eq in let f = chief_of same chiefs.now in result ≡ narrowed_of same f inclusion }
+fn narrowed(chiefs: &Chiefs, inclusion: Inclusion) -> Option<Prop>
+    ensures { result ≡ narrowed_of (chief_of chiefs.now) inclusion }
 {
+    prop_laws();
     match inclusion {
         Inclusion::Exists {
             role,
@@ -152,14 +143,14 @@ fn narrowed(chiefs: &IndexMap<Prop, Prop>, inclusion: Inclusion) -> Option<Prop>
             ..
         } => Some(Prop::Role(role)),
         Inclusion::Role { sub, sup } => {
-            if chief(chiefs, Prop::Role(sub)) == chief(chiefs, Prop::Role(sup)) {
+            if chiefs.chief(Prop::Role(sub)) == chiefs.chief(Prop::Role(sup)) {
                 None
             } else {
                 Some(Prop::Role(sup))
             }
         }
         Inclusion::Attr { sub, sup } => {
-            if chief(chiefs, Prop::Attr(sub)) == chief(chiefs, Prop::Attr(sup)) {
+            if chiefs.chief(Prop::Attr(sub)) == chiefs.chief(Prop::Attr(sup)) {
                 None
             } else {
                 Some(Prop::Attr(sup))
@@ -170,25 +161,15 @@ fn narrowed(chiefs: &IndexMap<Prop, Prop>, inclusion: Inclusion) -> Option<Prop>
 }
 
 // Whether a property or its inverse is equivalent to one whose chief stands in the set.
-fn is_like(chiefs: &IndexMap<Prop, Prop>, set: &IndexSet<Prop>, prop: Prop) -> bool
-    ensures { let same = ⟦<Prop as PartialEq>⟧.eq in let f = chief_of same chiefs.now in result ≡ is_like_of same f set.now prop }
+fn is_like(chiefs: &Chiefs, set: &PropSet, prop: Prop) -> bool
+    ensures { result ≡ is_like_of (chief_of chiefs.now) set.now prop }
 {
-    stands(set, chief(chiefs, prop)) || stands(set, chief(chiefs, prop.inverse()))
-}
-
-fn stands(set: &IndexSet<Prop>, prop: Prop) -> bool
-    ensures { result ≡ contains ⟦<Prop as PartialEq>⟧.eq set.now prop }
-{
-    set.contains(&prop)
+    set.contains(chiefs.chief(prop)) || set.contains(chiefs.chief(prop.inverse()))
 }
 
 // The line of the first axiom that specialises a functional property.
-fn first_axiom(
-    chiefs: &IndexMap<Prop, Prop>,
-    functional: &IndexSet<Prop>,
-    lines: &[Lined<Inclusion>],
-) -> Option<u32>
-    ensures { let same = ⟦<Prop as PartialEq>⟧.eq in let f = chief_of same chiefs.now in result ≡ first_line (λ i. passes (is_like_of same f functional.now) (narrowed_of same f i)) lines.now }
+fn first_axiom(chiefs: &Chiefs, functional: &PropSet, lines: &[Lined<Inclusion>]) -> Option<u32>
+    ensures { result ≡ first_line (narrows (chief_of chiefs.now) functional.now) lines.now }
 {
     for line in lines {
         if specialises(chiefs, functional, line.item) {
@@ -198,12 +179,8 @@ fn first_axiom(
     None
 }
 
-fn specialises(
-    chiefs: &IndexMap<Prop, Prop>,
-    functional: &IndexSet<Prop>,
-    inclusion: Inclusion,
-) -> bool
-    ensures { let same = ⟦<Prop as PartialEq>⟧.eq in let f = chief_of same chiefs.now in result ≡ passes (is_like_of same f functional.now) (narrowed_of same f inclusion) }
+fn specialises(chiefs: &Chiefs, functional: &PropSet, inclusion: Inclusion) -> bool
+    ensures { result ≡ narrows (chief_of chiefs.now) functional.now inclusion }
 {
     match narrowed(chiefs, inclusion) {
         Some(prop) => is_like(chiefs, functional, prop),
@@ -213,11 +190,11 @@ fn specialises(
 
 // The first constraint that breaches.
 fn first_constraint(
-    chiefs: &IndexMap<Prop, Prop>,
-    special: &IndexSet<Prop>,
+    chiefs: &Chiefs,
+    special: &PropSet,
     constraints: &[Lined<Constraint>],
 ) -> Option<RestrictionBreach>
-    ensures { let same = ⟦<Prop as PartialEq>⟧.eq in let f = chief_of same chiefs.now in result ≡ first_judged (is_like_of same f special.now) constraints.now }
+    ensures { result ≡ first_judged (is_like_of (chief_of chiefs.now) special.now) constraints.now }
 {
     for constraint in constraints {
         if let Some(kind) = breach_kind(chiefs, special, &constraint.item) {
@@ -233,11 +210,11 @@ fn first_constraint(
 
 // How a constraint breaches.
 fn breach_kind(
-    chiefs: &IndexMap<Prop, Prop>,
-    special: &IndexSet<Prop>,
+    chiefs: &Chiefs,
+    special: &PropSet,
     constraint: &Constraint,
 ) -> Option<RestrictionKind>
-    ensures { let same = ⟦<Prop as PartialEq>⟧.eq in let f = chief_of same chiefs.now in result ≡ breach_kind_of (is_like_of same f special.now) constraint.now }
+    ensures { result ≡ breach_kind_of (is_like_of (chief_of chiefs.now) special.now) constraint.now }
 {
     match constraint {
         Constraint::Identify { paths, .. } => judge(chiefs, special, paths.as_slice()),
@@ -246,12 +223,8 @@ fn breach_kind(
 }
 
 // How an identification with these paths breaches.
-fn judge(
-    chiefs: &IndexMap<Prop, Prop>,
-    special: &IndexSet<Prop>,
-    paths: &[List<Step>],
-) -> Option<RestrictionKind>
-    ensures { let same = ⟦<Prop as PartialEq>⟧.eq in let f = chief_of same chiefs.now in result ≡ judged (is_like_of same f special.now) false (anchors paths.now) }
+fn judge(chiefs: &Chiefs, special: &PropSet, paths: &[List<Step>]) -> Option<RestrictionKind>
+    ensures { result ≡ judged (is_like_of (chief_of chiefs.now) special.now) false (anchors paths.now) }
 {
     let mut local = false;
     for path in paths {

@@ -5,8 +5,8 @@ ghost use Rattle.mast_tbox.specs.Numbers.{IsNumbered};
 use crate::{Inclusion, Lined, Negative, Prop};
 use mast_terms::{List, Vocabulary};
 
-/// The axioms, in the order of the document. The existential inclusions are numbered from 0 in order, and the three lists
-/// have together at most 1,000,000 items.
+/// The axioms, in the order of the document. The existential inclusions are numbered from 0 in order, and the three
+/// lists have together at most 1,000,000 items.
 #[derive(Drop)]
 pub struct TBox {
     /// The inclusions and the ranges.

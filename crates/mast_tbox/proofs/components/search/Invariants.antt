@@ -1,4 +1,4 @@
-use Rattle.mast_tbox.specs.Components.{Begins}
+use Rattle.mast_tbox.specs.inside.Components.{Begins}
 use Rattle.mast_tbox.proofs.components.search.Given as goal
 
 abbrev pub invariant-loop : goal.invariant-loop

@@ -1,5 +1,5 @@
 use Rattle.std.proofs.Common.{◌≡◌, ◌++◌, drop, map}
-use Rattle.mast_tbox.specs.Components.{turned}
+use Rattle.mast_tbox.specs.inside.Components.{turned}
 use Rattle.mast_tbox.proofs.components.turned.Given as goal
 
 abbrev pub invariant-loop-line : goal.invariant-loop-line

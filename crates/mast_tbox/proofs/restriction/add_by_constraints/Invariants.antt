@@ -1,9 +1,7 @@
-use Rattle.std.proofs.Common.{◌≡◌, drop, map}
-use Rattle.indexmap.specs.IndexSet.{insert_all}
-use Rattle.mast_tbox.specs.contracts.expression.PropPartialEq.TheImpl as prop
-use Rattle.mast_tbox.specs.Components.{chief}
-use Rattle.mast_tbox.specs.Judging.{functionals}
+use Rattle.std.proofs.Common.{◌≡◌, drop}
+use Rattle.mast_tbox.specs.inside.Chosen.{chief_of}
+use Rattle.mast_tbox.specs.inside.Judging.{functionals, marking}
 use Rattle.mast_tbox.proofs.restriction.add_by_constraints.Given as goal
 
 abbrev pub invariant-loop-line : goal.invariant-loop-line
-invariant-loop-line l = insert_all prop.eq-value.it l.set.keys (map (chief prop.eq-value.it l.chiefs) (functionals (drop l.line-index l.constraints))) ≡ insert_all prop.eq-value.it l.fn.set.keys (map (chief prop.eq-value.it l.chiefs) (functionals l.constraints))
+invariant-loop-line l = marking (chief_of l.chiefs) l.set (functionals (drop l.line-index l.constraints)) ≡ marking (chief_of l.chiefs) l.fn.set (functionals l.constraints)

@@ -1,5 +1,5 @@
 use Rattle.std.proofs.Common.{◌≡◌, drop}
-use Rattle.mast_tbox.specs.Judging.{single_after}
+use Rattle.mast_tbox.specs.inside.Judging.{single_after}
 use Rattle.mast_tbox.specs.Restrictions.{along, single}
 use Rattle.mast_tbox.proofs.restriction.anchor.Given as goal
 

@@ -1,6 +1,6 @@
 -- Judging the restrictions by the chiefs of properties.
-use Rattle.std.specs.Prelude.{ℕ, List, [], ◌∷◌, Option, Some, None, Bool, true, false, ◌||◌, if◌then◌else◌}
-use Rattle.indexmap.specs.IndexSet.{IndexSet, contains}
+use Rattle.std.specs.Prelude.{ℕ, List, [], ◌∷◌, Option, Some, None, Bool, true, false, ◌||◌, if◌then◌else◌, map}
+use Rattle.indexmap.specs.IndexSet.{insert_all}
 use Rattle.mast_tree.specs.declared.item.DocName.TheVariants.{Constraints}
 use Rattle.mast_tbox.specs.declared.expression.Prop.{Prop}
 use Rattle.mast_tbox.specs.declared.expression.Prop.TheVariants.{Role as PRole, Attr as PAttr}
@@ -14,23 +14,24 @@ use Rattle.mast_tbox.specs.declared.constraint.Constraint.TheVariants.{Functiona
 use Rattle.mast_tbox.specs.declared.restriction.RestrictionKind.{RestrictionKind}
 use Rattle.mast_tbox.specs.declared.restriction.RestrictionKind.TheVariants.{NotLocal, AnchorSpecialised}
 use Rattle.mast_tbox.specs.declared.restriction.RestrictionBreach.{RestrictionBreach}
-use Rattle.mast_tbox.specs.Expressions.{inverse}
+use Rattle.mast_tbox.specs.Expressions.{inverse, same_prop}
 use Rattle.mast_tbox.specs.Restrictions.{anchors, with_first}
+use Rattle.mast_tbox.specs.inside.Chosen.{is_in}
 
 -- the property, unless the two are the same
 abbrev pub unless_same : Bool → Prop → Option Prop
 unless_same true p = None
 unless_same false p = Some p
 
-module _ (eq : Prop → Prop → Bool) (f : Prop → Prop) where
+module _ (f : Prop → Prop) where
   -- the property that the inclusion specialises: the wider one, where the chiefs of its sides differ
   abbrev pub narrowed : Inclusion → Option Prop
   narrowed (IClass b a) = None
   narrowed (Exists b r None k) = None
   narrowed (Exists b r (Some a) k) = Some (PRole r)
   narrowed (HasValue b u k) = None
-  narrowed (IRole r s) = unless_same (eq (f (PRole r)) (f (PRole s))) (PRole s)
-  narrowed (IAttr u v) = unless_same (eq (f (PAttr u)) (f (PAttr v))) (PAttr v)
+  narrowed (IRole r s) = unless_same (same_prop (f (PRole r)) (f (PRole s))) (PRole s)
+  narrowed (IAttr u v) = unless_same (same_prop (f (PAttr u)) (f (PAttr v))) (PAttr v)
   narrowed (Range u kind) = None
 
   -- the properties that inclusions specialise
@@ -49,14 +50,26 @@ abbrev pub functionals : List (Lined Constraint) → List Prop
 functionals [] = []
 functionals (l ∷ ls) = with_first (made_functional l.item) (functionals ls)
 
+-- the set after the chiefs of properties were added
+abbrev pub marking : (Prop → Prop) → List Prop → List Prop → List Prop
+marking f set ps = insert_all same_prop set (map f ps)
+
+-- the chiefs of properties, in their order, each once
+abbrev pub marked : (Prop → Prop) → List Prop → List Prop
+marked f ps = marking f [] ps
+
 -- the chief of the property or of its inverse stands in the set
-abbrev pub is_like : {S : Type 0} → (Prop → Prop → Bool) → (Prop → Prop) → IndexSet Prop S → Prop → Bool
-is_like eq f set p = contains eq set (f p) || contains eq set (f (inverse p))
+abbrev pub is_like : (Prop → Prop) → List Prop → Prop → Bool
+is_like f set p = is_in (f p) set || is_in (f (inverse p)) set
 
 -- the test, of a property that is there
 abbrev pub passes : (Prop → Bool) → Option Prop → Bool
 passes test None = false
 passes test (Some p) = test p
+
+-- the inclusion specialises a property whose chief stands in the set
+abbrev pub narrows : (Prop → Prop) → List Prop → Inclusion → Bool
+narrows f set i = passes (is_like f set) (narrowed f i)
 
 -- the line of the first item that passes the test
 abbrev pub first_line : {X : Type 0} → (X → Bool) → List (Lined X) → Option ℕ
@@ -82,6 +95,7 @@ module _ (test : Prop → Bool) where
   breach_kind (Identify b paths) = judged false (anchors paths)
   breach_kind (Deny atoms) = None
 
+  -- a breach of a kind at a line, or else the rest
   abbrev pub at_line : Option RestrictionKind → ℕ → Option RestrictionBreach → Option RestrictionBreach
   at_line None line rest = rest
   at_line (Some kind) line rest = Some (record { doc = Constraints; line = line; kind = kind })

@@ -1,11 +1,13 @@
-//! Worked TBoxes, with what they give.
+//! Worked TBoxes, with what they give: that the calls succeed, and that the definitions give the answers of worked inputs.
+#![tactic(auto)]
+
 ghost use Rattle.std.specs.Prelude.{◌≡◌, ◌+◌, ◌≤◌, length, IfOk};
 
-use crate::{
+use mast_cq::{Arg, Atom};
+use mast_tbox::{
     Basic, Constraint, Inclusion, Lined, Prop, RestrictionBreach, RestrictionKind, RoleExpr, Step,
     TBox, normal, restriction_breach,
 };
-use mast_cq::{Arg, Atom};
 use mast_terms::{List, Name, NoMemory};
 use mast_tree::DocName;
 use std::alloc::Global;
@@ -109,29 +111,35 @@ fn teaching(alloc: Global) -> Result<TBox, NoMemory> {
 // Workers share what is lent to it.
 fn shared<T: Sync>(_: &T) {}
 
+// The name of the role that stands for the one qualified inclusion.
+const AUXILIARY: u32 = 65_536;
+
 #[test]
 fn what_is_below_an_atom(rt: HostRuntime) -> Result<(), Fail> {
     let alloc = rt.alloc();
     let normal = normal(alloc, &teaching(alloc)?)?;
     assert_eq!(&rt; normal.inclusions().len(), 5);
     shared(&normal);
-    let auxiliary = 65_536;
     let all = [
         class(0, X),
         class(1, X),
         role(0, X, NONE),
         role(1, NONE, X),
-        role(auxiliary, X, NONE),
+        role(AUXILIARY, X, NONE),
     ];
-    assert_eq!(&rt; normal.down(alloc, class(0, X))?.as_slice(), all.as_slice());
-    let bound = [role(0, X, Y), role(1, Y, X), role(auxiliary, X, Y)];
-    assert_eq!(&rt;
-        normal.down(alloc, role(0, X, Y))?.as_slice(),
-        bound.as_slice()
-    );
+    let bound = [role(0, X, Y), role(1, Y, X), role(AUXILIARY, X, Y)];
+    let alone = [role(1, X, Y)];
+    let rows = [
+        (class(0, X), all.as_slice()),
+        (role(0, X, Y), bound.as_slice()),
+        (role(1, X, Y), alone.as_slice()),
+    ];
+    for (atom, members) in rows {
+        assert_eq!(&rt; normal.down(alloc, atom)?.as_slice(), members);
+    }
     assert_eq!(&rt;
         normal.below(Basic::Class(Name(2))),
-        [Basic::Some(RoleExpr::Inverse(Name(auxiliary)))].as_slice()
+        [Basic::Some(RoleExpr::Inverse(Name(AUXILIARY)))].as_slice()
     );
     Ok(())
 }
