@@ -1,12 +1,13 @@
 -- The machine goes exactly where some document goes.
 use Rattle.std.proofs.Common.{◌≡◌, ℕ, zero, suc, true, List, ◌∷◌, [], ◌++◌, refl, ap, sym, ◌∙◌, append_assoc}
 use Rattle.std.proofs.lemmas.List.{append-nil}
+use Rattle.mast_source.specs.Grammar.{Begins}
 use Rattle.mast_tree.specs.declared.token.TokenKind.{TokenKind}
 use Rattle.mast_tree.specs.declared.token.TokenKind.TheVariants.{Open, Close, Equals, Carets, Lang, Iri, Name, Str}
-use Rattle.mast_tree.specs.declared.place.Place.{Place}
-use Rattle.mast_tree.specs.declared.place.Place.TheVariants.{Item, AfterName, AfterStr, AfterCarets, AfterEquals}
-use Rattle.mast_tree.specs.Grammar.{Items, done, name, iri, str, str_lang, str_name, str_iri, bind, node, kinds_of, IsDocument, Begins}
-use Rattle.mast_tree.specs.Machine.{State, stuck, at, item_step, step, run, ends}
+use Rattle.mast_tree.specs.declared.parser.ParseState.{ParseState}
+use Rattle.mast_tree.specs.declared.parser.ParseState.TheVariants.{Item, AfterName, AfterStr, AfterCarets, AfterEquals}
+use Rattle.mast_tree.specs.Grammar.{Items, done, name, iri, str, str_lang, str_name, str_iri, bind, node, kinds_of, IsDocument, Spells}
+use Rattle.mast_tree.specs.inside.Parser.{Configuration, stuck, at, item_step, step, run, ends}
 
 -- what may stand after the items when so many parentheses are open
 abbrev pub End : ℕ → List TokenKind → Type 0
@@ -17,7 +18,8 @@ End (suc d) rest = (after : List TokenKind) × (items : Items) × (more : List T
 abbrev pub Tail : ℕ → List TokenKind → Type 0
 Tail d ks = (items : Items) × (rest : List TokenKind) × (ks ≡ kinds_of items ++ rest) × End d rest
 
-abbrev pub pending : Place → List TokenKind
+-- the kinds that were read of an item that is not whole
+abbrev pub pending : ParseState → List TokenKind
 pending Item = []
 pending AfterName = Name ∷ []
 pending AfterStr = Str ∷ []
@@ -25,7 +27,7 @@ pending AfterCarets = Str ∷ Carets ∷ []
 pending AfterEquals = Name ∷ Equals ∷ []
 
 -- what may come at a state
-abbrev pub After : State → List TokenKind → Type 0
+abbrev pub After : Configuration → List TokenKind → Type 0
 After stuck ks = ⊥
 After (at p d) ks = Tail d (pending p ++ ks)
 
@@ -55,6 +57,7 @@ put_bind d ks t = (bind t.0, t.1, ap (λ x. Name ∷ Equals ∷ Iri ∷ x) t.2, 
 put_close : (d : ℕ) (ks : List TokenKind) → Tail d ks → Tail (suc d) (Close ∷ ks)
 put_close d ks t = (done, Close ∷ ks, refl, (ks, t.0, t.1, refl, t.2, t.3))
 
+-- the kinds of a node, and those that follow
 pub node_kinds : (inside more : Items) (rest : List TokenKind) → kinds_of (node inside more) ++ rest ≡ Name ∷ Open ∷ (kinds_of inside ++ (Close ∷ (kinds_of more ++ rest)))
 node_kinds inside more rest = ap (λ x. Name ∷ Open ∷ x) (append_assoc (kinds_of inside) (Close ∷ kinds_of more) rest)
 
@@ -76,7 +79,8 @@ item_back d Equals ks h = absurd h
 item_back d Carets ks h = absurd h
 item_back d Lang ks h = absurd h
 
-pub back : (p : Place) (d : ℕ) (k : TokenKind) (ks : List TokenKind) → After (step p d k) ks → After (at p d) (k ∷ ks)
+-- what may come behind a kind may come with it
+pub back : (p : ParseState) (d : ℕ) (k : TokenKind) (ks : List TokenKind) → After (step p d k) ks → After (at p d) (k ∷ ks)
 back Item d k ks h = item_back d k ks h
 back AfterName d Equals ks h = h
 back AfterName d Open ks h = put_node d ks h
@@ -90,29 +94,34 @@ back AfterCarets d k ks h = absurd h
 back AfterEquals d Iri ks h = put_bind d ks h
 back AfterEquals d k ks h = absurd h
 
-pub back_run : (s : State) (ks more : List TokenKind) → After (run s ks) more → After s (ks ++ more)
+pub back_run : (s : Configuration) (ks more : List TokenKind) → After (run s ks) more → After s (ks ++ more)
 back_run s [] more h = h
 back_run stuck (k ∷ ks) more h = absurd h
 back_run (at p d) (k ∷ ks) more h = back p d k (ks ++ more) (back_run (step p d k) ks more h)
 
 -- forth: what may come, and the step
 
+-- what ends nodes begins with a parenthesis that closes
 pub front_is : (d : ℕ) (k : TokenKind) (ks rest : List TokenKind) → k ∷ ks ≡ rest → End d rest → k ≡ Close
 front_is zero k ks rest e h = absurd (cc)
 front_is (suc d) k ks rest e h = let f = h.3 in cc
 
+-- items and the ends of nodes begin with no parenthesis that opens
 pub no_open : (items : Items) (d : ℕ) (ks rest : List TokenKind) → Open ∷ ks ≡ kinds_of items ++ rest → End d rest → ⊥
 no_open done d ks rest e h = let c = front_is d Open ks rest e h in cc
 no_open _ d ks rest e h = cc
 
+-- nor with `=`
 pub no_equals : (items : Items) (d : ℕ) (ks rest : List TokenKind) → Equals ∷ ks ≡ kinds_of items ++ rest → End d rest → ⊥
 no_equals done d ks rest e h = let c = front_is d Equals ks rest e h in cc
 no_equals _ d ks rest e h = cc
 
+-- nor with `^^`
 pub no_carets : (items : Items) (d : ℕ) (ks rest : List TokenKind) → Carets ∷ ks ≡ kinds_of items ++ rest → End d rest → ⊥
 no_carets done d ks rest e h = let c = front_is d Carets ks rest e h in cc
 no_carets _ d ks rest e h = cc
 
+-- nor with a language
 pub no_lang : (items : Items) (d : ℕ) (ks rest : List TokenKind) → Lang ∷ ks ≡ kinds_of items ++ rest → End d rest → ⊥
 no_lang done d ks rest e h = let c = front_is d Lang ks rest e h in cc
 no_lang _ d ks rest e h = cc
@@ -200,7 +209,7 @@ equals_forth d k ks t = go t.0 k t.2
     go (bind m) Iri e = (m, t.1, cc, t.3)
     go _ k e = absurd (cc)
 
-pub forth : (p : Place) (d : ℕ) (k : TokenKind) (ks : List TokenKind) → After (at p d) (k ∷ ks) → After (step p d k) ks
+pub forth : (p : ParseState) (d : ℕ) (k : TokenKind) (ks : List TokenKind) → After (at p d) (k ∷ ks) → After (step p d k) ks
 forth Item d k ks t = item_forth d k ks t
 forth AfterName d Equals ks t = t
 forth AfterName d Open ks t = name_open d ks t
@@ -211,13 +220,14 @@ forth AfterStr d k ks t = item_forth d k ks (str_alone d k ks (λ e. cc) (λ e. 
 forth AfterCarets d k ks t = carets_forth d k ks t
 forth AfterEquals d k ks t = equals_forth d k ks t
 
-pub forth_run : (s : State) (ks more : List TokenKind) → After s (ks ++ more) → After (run s ks) more
+pub forth_run : (s : Configuration) (ks more : List TokenKind) → After s (ks ++ more) → After (run s ks) more
 forth_run s [] more h = h
 forth_run stuck (k ∷ ks) more h = absurd h
 forth_run (at p d) (k ∷ ks) more h = forth_run (step p d k) ks more (forth p d k (ks ++ more) h)
 
 -- each state can be completed
 
+-- the parentheses that close
 abbrev pub closing : ℕ → List TokenKind
 closing zero = []
 closing (suc d) = Close ∷ closing d
@@ -226,27 +236,28 @@ closes : (d : ℕ) → Tail d (closing d)
 closes zero = (done, [], refl, refl)
 closes (suc d) = put_close d (closing d) (closes d)
 
-abbrev pub completion : Place → ℕ → List TokenKind
+abbrev pub completion : ParseState → ℕ → List TokenKind
 completion AfterCarets d = Iri ∷ closing d
 completion AfterEquals d = Iri ∷ closing d
 completion p d = closing d
 
-completes : (p : Place) (d : ℕ) → After (at p d) (completion p d)
+completes : (p : ParseState) (d : ℕ) → After (at p d) (completion p d)
 completes Item d = closes d
 completes AfterName d = put_name d (closing d) (closes d)
 completes AfterStr d = put_str d (closing d) (closes d)
 completes AfterCarets d = put_str_iri d (closing d) (closes d)
 completes AfterEquals d = put_bind d (closing d) (closes d)
 
-abbrev pub Goes : State → Type 0
+-- there is a way on
+abbrev pub Goes : Configuration → Type 0
 Goes stuck = ⊥
 Goes (at p d) = Unit {0}
 
-goes_on : (s : State) → Goes s → (more : List TokenKind) × After s more
+goes_on : (s : Configuration) → Goes s → (more : List TokenKind) × After s more
 goes_on stuck h = absurd h
 goes_on (at p d) h = (completion p d, completes p d)
 
-went : (s : State) (more : List TokenKind) → After s more → Goes s
+went : (s : Configuration) (more : List TokenKind) → After s more → Goes s
 went stuck more h = h
 went (at p d) more h = tt
 
@@ -257,14 +268,16 @@ document_after ks h = (h.0, [], h.1 ∙ sym (append-nil (kinds_of h.0)), refl)
 after_document : (ks : List TokenKind) → After (at Item zero) ks → IsDocument ks
 after_document ks t = (t.0, t.2 ∙ ap (λ x. kinds_of t.0 ++ x) t.3 ∙ append-nil (kinds_of t.0))
 
-pub begins_goes : (ks : List TokenKind) → Begins ks → Goes (run (at Item zero) ks)
-begins_goes ks h = went (run (at Item zero) ks) h.0 (forth_run (at Item zero) ks h.0 (document_after (ks ++ h.0) h.1))
+-- what begins a document the parser goes on with
+pub begins_goes : (ks : List TokenKind) → Begins Spells ks → Goes (run (at Item zero) ks)
+begins_goes ks h = went (run (at Item zero) ks) h.0 (forth_run (at Item zero) ks h.0 (document_after (ks ++ h.0) (h.1, h.2)))
 
-pub goes_begins : (ks : List TokenKind) → Goes (run (at Item zero) ks) → Begins ks
-goes_begins ks h = let g = goes_on (run (at Item zero) ks) h in (g.0, after_document (ks ++ g.0) (back_run (at Item zero) ks g.0 g.1))
+-- what the parser goes on with begins a document
+pub goes_begins : (ks : List TokenKind) → Goes (run (at Item zero) ks) → Begins Spells ks
+goes_begins ks h = let g = goes_on (run (at Item zero) ks) h in let d = after_document (ks ++ g.0) (back_run (at Item zero) ks g.0 g.1) in (g.0, d.0, d.1)
 
 -- where a document may end
-pub ends_after : (p : Place) (d : ℕ) → ends (at p d) ≡ true → After (at p d) []
+pub ends_after : (p : ParseState) (d : ℕ) → ends (at p d) ≡ true → After (at p d) []
 ends_after Item zero h = closes zero
 ends_after AfterName zero h = put_name zero [] (closes zero)
 ends_after AfterStr zero h = put_str zero [] (closes zero)
@@ -298,7 +311,7 @@ equals_end d (name m) rest e h = no_equals m d [] rest (cc) h
 equals_end d done rest e h = let c = front_is d Name (Equals ∷ []) rest e h in cc
 equals_end d _ rest e h = cc
 
-pub after_ends : (p : Place) (d : ℕ) → After (at p d) [] → ends (at p d) ≡ true
+pub after_ends : (p : ParseState) (d : ℕ) → After (at p d) [] → ends (at p d) ≡ true
 after_ends Item zero t = refl
 after_ends AfterName zero t = refl
 after_ends AfterStr zero t = refl
@@ -308,16 +321,18 @@ after_ends AfterStr (suc d) t = absurd (str_end d t.0 t.1 t.2 t.3)
 after_ends AfterCarets d t = absurd (carets_end d t.0 t.1 t.2 t.3)
 after_ends AfterEquals d t = absurd (equals_end d t.0 t.1 t.2 t.3)
 
-state_ends : (s : State) → After s [] → ends s ≡ true
+state_ends : (s : Configuration) → After s [] → ends s ≡ true
 state_ends stuck t = absurd t
 state_ends (at p d) t = after_ends p d t
 
-ends_state : (s : State) → ends s ≡ true → After s []
+ends_state : (s : Configuration) → ends s ≡ true → After s []
 ends_state stuck h = absurd (cc)
 ends_state (at p d) h = ends_after p d h
 
+-- behind a document it may end
 pub document_ends : (ks : List TokenKind) → IsDocument ks → ends (run (at Item zero) ks) ≡ true
 document_ends ks h = state_ends (run (at Item zero) ks) (forth_run (at Item zero) ks [] (rw append-nil (document_after ks h)))
 
+-- where it may end stands a document
 pub ends_document : (ks : List TokenKind) → ends (run (at Item zero) ks) ≡ true → IsDocument ks
 ends_document ks h = after_document ks (let b = back_run (at Item zero) ks [] (ends_state (run (at Item zero) ks) h) in rw append-nil at b)

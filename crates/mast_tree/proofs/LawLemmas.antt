@@ -6,9 +6,9 @@ use Rattle.mast_tree.specs.declared.item.Item.{Item}
 use Rattle.mast_tree.specs.declared.item.TreeBreach.{TreeBreach}
 use Rattle.mast_tree.specs.declared.item.TreeKind.{TreeKind}
 use Rattle.mast_tree.specs.declared.item.TreeKind.TheVariants.{Unexpected, Deep}
-use Rattle.mast_tree.specs.declared.place.Place.TheVariants as place
+use Rattle.mast_tree.specs.declared.parser.ParseState.TheVariants as place
 use Rattle.mast_tree.specs.Grammar.{Found, fine, unexpected, deep, Tells}
-use Rattle.mast_tree.specs.Machine.{look}
+use Rattle.mast_tree.specs.inside.Parser.{look}
 use Rattle.mast_tree.specs.Trees.{items_from, Stand, kinds, IsTree, IsTreeBreach, found_of}
 use Rattle.mast_tree.specs.Laws.{HasOneTree}
 use Rattle.mast_tree.proofs.LookLemmas.{look_exact, only_one}
@@ -42,6 +42,7 @@ same_tree ks a b s t = s.2 ∙ ap (λ x. items_from 0 x) (one_document s.0 t.0 (
 same_breach : (a b : TreeBreach) → (a.kind ≡ b.kind) × (a.token ≡ b.token) → a ≡ b
 same_breach a b h = λ i. record { token = h.1 i; kind = h.0 i }
 
+-- tokens have one tree or one first breach
 pub has_one_tree : (tokens : List Token) → HasOneTree tokens
 has_one_tree tokens = record {
   either = either_found tokens (look place.Item 0 (kinds tokens)) (look_exact (kinds tokens));

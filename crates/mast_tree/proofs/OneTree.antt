@@ -21,6 +21,7 @@ not_end (node i m) d r s e h g = let f = e ∙ node_kinds i m s in let c = front
 grow : {r s : List TokenKind} (f : Items → Items) (a b : Items) → (a ≡ b) × (r ≡ s) → (f a ≡ f b) × (r ≡ s)
 grow f a b h = (ap f h.0, h.1)
 
+-- kinds that end one list of items end no other
 pub one_tree : (a b : Items) (d : ℕ) (r s : List TokenKind) → kinds_of a ++ r ≡ kinds_of b ++ s → End d r → End d s → (a ≡ b) × (r ≡ s)
 one_tree done b d r s e h g = not_end b d r s e h g
 one_tree (name m) done d r s e h g = let t = not_end (name m) d s r (sym e) g h in (sym t.0, sym t.1)
@@ -58,5 +59,6 @@ one_tree (node i m) (node j n) d r s e h g =
     (cc, u.1)
 one_tree a b d r s e h g = absurd (cc)
 
+-- items with the same kinds are the same
 pub one_document : (a b : Items) → kinds_of a ≡ kinds_of b → a ≡ b
 one_document a b e = (one_tree a b zero [] [] (append-nil (kinds_of a) ∙ e ∙ sym (append-nil (kinds_of b))) refl refl).0

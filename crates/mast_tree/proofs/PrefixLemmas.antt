@@ -8,9 +8,11 @@ use Rattle.std.specs.List.{position_or_len, before_first, after_first}
 use Rattle.std.specs.declared.string.String.{String}
 use Rattle.indexmap.specs.IndexMap.{insert_entry}
 use Rattle.std.proofs.lemmas.Bool.{cases_Bool}
-use Rattle.mast_tree.specs.Prefixes.{namespace_of, colon_split, after_byte, parts_of}
+use Rattle.mast_tree.specs.inside.Prologue.{parts_of}
+use Rattle.mast_tree.specs.Prefixes.{namespace_of, colon_split, after_byte}
 use Rattle.mast_tree.specs.Tables.{shown}
 
+-- what a map gives at a prefix is what the table gives
 pub find_shown : {Z : Type 0} (q : List ℕ) (es : List (String Z × List ℕ)) → lookup (λ k. bytes_eq q (string_bytes k)) es ≡ namespace_of q (shown es)
 find_shown q [] = refl
 find_shown q (e ∷ es) = elim (cases_Bool (bytes_eq q (string_bytes e.0))) [
@@ -18,6 +20,7 @@ find_shown q (e ∷ es) = elim (cases_Bool (bytes_eq q (string_bytes e.0))) [
   | inr h ↦ rw h (find_shown q es)
 ]
 
+-- a new entry of a map stands at the end of the table
 pub put_shown : {Z : Type 0} (k : String Z) (v : List ℕ) (es : List (String Z × List ℕ)) → namespace_of (string_bytes k) (shown es) ≡ None → shown (insert_entry string_eq es k v) ≡ shown es ++ (string_bytes k, v) ∷ []
 put_shown k v [] h = refl
 put_shown k v (e ∷ es) h = elim (cases_Bool (bytes_eq (string_bytes k) (string_bytes e.0))) [
@@ -50,6 +53,7 @@ no_colon (b ∷ bs) h = elim (cases_Bool (b == 58)) [
     go : (n : ℕ) → (n ≡ length bs → colon_split bs ≡ None) → 1 + n ≡ length (b ∷ bs) → after_byte b (colon_split bs) ≡ None
     go n ih h = ap (λ x. after_byte b x) (ih (omega arith))
 
+-- std's first colon is the first colon
 pub split_is : (bs : List ℕ) (r : Option (Bor (List ℕ) × Bor (List ℕ))) → MatchOption r (position_or_len (λ b. b == 58) bs ≡ length bs) (λ x. (position_or_len (λ b. b == 58) bs < length bs) × (x.0.now ≡ before_first (λ b. b == 58) bs) × (x.1.now ≡ after_first (λ b. b == 58) bs)) → parts_of r ≡ colon_split bs
 split_is bs None h = sym (no_colon bs h)
 split_is bs (Some x) h = pair x.0.now x.1.now h.1 h.2 ∙ sym (colon_at bs h.0)

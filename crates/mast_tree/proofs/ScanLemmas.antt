@@ -3,14 +3,12 @@ use Rattle.std.proofs.Common.{◌≡◌, ◌⊎◌, inl, inr, ℕ, ◌+◌, ◌�
 use Rattle.std.specs.Prelude.{not}
 use Rattle.std.proofs.lemmas.Bool.Decides.{nat_tests}
 use Rattle.std.proofs.lemmas.Bool.{and_parts, cases_Bool}
-use Rattle.mast_tree.specs.declared.scan.Scanned.{Scanned}
-use Rattle.mast_tree.specs.declared.scan.Scanned.TheVariants.{Whole, Endless, Bad}
+use Rattle.mast_source.proofs.ByteLemmas.{is_byte}
+use Rattle.mast_tree.specs.declared.scanner.Enclosed.{Enclosed}
+use Rattle.mast_tree.specs.declared.scanner.Enclosed.TheVariants.{Whole, Endless, Bad}
 use Rattle.mast_tree.specs.Tokens.{is_name, is_lang, is_iri, is_end, are_name, are_lang, iri_rest, str_rest, are_chars, is_blank, are_blank, ends_blank}
-use Rattle.mast_tree.specs.Scan.{name_scan, lang_scan, iri_scan, str_scan, blank_scan}
+use Rattle.mast_tree.specs.inside.Scanner.{name_scan, lang_scan, iri_scan, str_scan, blank_scan}
 use Rattle.mast_tree.specs.Source.{NoBlank, NoEscape}
-
-pub is_byte : (b n : ℕ) → (b == n) ≡ true → b ≡ n
-is_byte b n h = grind (arith, nat_tests)
 
 -- names
 
@@ -21,16 +19,18 @@ name_from at (b ∷ bs) = elim (cases_Bool (is_name b)) [
   | inr h ↦ rw h (omega arith)
 ]
 
-pub name_front : (w rest : List ℕ) (at : ℕ) → are_name w ≡ true → at + length w ≤ name_scan at (w ++ rest)
-name_front [] rest at h = let f = name_from at rest in omega arith
-name_front (b ∷ w) rest at h =
+-- a scan goes at least as far as a name
+pub name_at_least : (w rest : List ℕ) (at : ℕ) → are_name w ≡ true → at + length w ≤ name_scan at (w ++ rest)
+name_at_least [] rest at h = let f = name_from at rest in omega arith
+name_at_least (b ∷ w) rest at h =
     let p = and_parts (is_name b) (are_name w) h in
-    let r = name_front w rest (at + 1) p.1 in
+    let r = name_at_least w rest (at + 1) p.1 in
     rw p.0 (omega arith)
 
 name_more : (b : ℕ) (w : List ℕ) → is_name b ≡ true → are_name w ≡ true → are_name (b ∷ w) ≡ true
 name_more b w e h = rw e h
 
+-- a scan ends behind the bytes of a name
 pub name_split : (at : ℕ) (bs : List ℕ) → (w rest : List ℕ) × (bs ≡ w ++ rest) × (are_name w ≡ true) × (at + length w ≡ name_scan at bs)
 name_split at [] = ([], [], refl, refl, omega arith)
 name_split at (b ∷ bs) = elim (cases_Bool (is_name b)) [
@@ -47,16 +47,18 @@ lang_from at (b ∷ bs) = elim (cases_Bool (is_lang b)) [
   | inr h ↦ rw h (omega arith)
 ]
 
-pub lang_front : (w rest : List ℕ) (at : ℕ) → are_lang w ≡ true → at + length w ≤ lang_scan at (w ++ rest)
-lang_front [] rest at h = let f = lang_from at rest in omega arith
-lang_front (b ∷ w) rest at h =
+-- a scan goes at least as far as a language
+pub lang_at_least : (w rest : List ℕ) (at : ℕ) → are_lang w ≡ true → at + length w ≤ lang_scan at (w ++ rest)
+lang_at_least [] rest at h = let f = lang_from at rest in omega arith
+lang_at_least (b ∷ w) rest at h =
     let p = and_parts (is_lang b) (are_lang w) h in
-    let r = lang_front w rest (at + 1) p.1 in
+    let r = lang_at_least w rest (at + 1) p.1 in
     rw p.0 (omega arith)
 
 lang_more : (b : ℕ) (w : List ℕ) → is_lang b ≡ true → are_lang w ≡ true → are_lang (b ∷ w) ≡ true
 lang_more b w e h = rw e h
 
+-- a scan ends behind the bytes of a language
 pub lang_split : (at : ℕ) (bs : List ℕ) → (w rest : List ℕ) × (bs ≡ w ++ rest) × (are_lang w ≡ true) × (at + length w ≡ lang_scan at bs)
 lang_split at [] = ([], [], refl, refl, omega arith)
 lang_split at (b ∷ bs) = elim (cases_Bool (is_lang b)) [
@@ -66,6 +68,7 @@ lang_split at (b ∷ bs) = elim (cases_Bool (is_lang b)) [
 
 -- IRIs
 
+-- the whole of an IRI is found
 pub iri_whole : (w rest : List ℕ) (at : ℕ) → iri_rest w ≡ true → iri_scan at (w ++ rest) ≡ Whole (at + length w)
 iri_whole [] rest at h = absurd (cc)
 iri_whole (b ∷ bs) rest at h = elim (cases_Bool (b == 62)) [
@@ -76,29 +79,31 @@ iri_whole (b ∷ bs) rest at h = elim (cases_Bool (b == 62)) [
       rw (e, p.0) (iri_whole bs rest (at + 1) p.1 ∙ ap Whole (omega arith))
 ]
   where
-    last : (bs : List ℕ) → is_end bs ≡ true → ◌≡◌ {A = Scanned} (Whole (at + 1)) (Whole (at + length (b ∷ bs)))
+    last : (bs : List ℕ) → is_end bs ≡ true → ◌≡◌ {A = Enclosed} (Whole (at + 1)) (Whole (at + length (b ∷ bs)))
     last [] h = ap Whole (omega arith)
     last (c ∷ cs) h = absurd (cc)
 
 iri_more : (b : ℕ) (w : List ℕ) → (b == 62) ≡ false → is_iri b ≡ true → iri_rest w ≡ true → iri_rest (b ∷ w) ≡ true
 iri_more b w e i h = rw (e, i) h
 
+-- what is found is the whole of an IRI
 pub iri_found : (bs : List ℕ) (at n : ℕ) → iri_scan at bs ≡ Whole n → (w rest : List ℕ) × (bs ≡ w ++ rest) × (iri_rest w ≡ true) × (at + length w ≡ n)
 iri_found [] at n h = absurd (cc)
 iri_found (b ∷ bs) at n h = elim (cases_Bool (b == 62)) [
-  | inl e ↦ let g : ◌≡◌ {A = Scanned} (Whole (at + 1)) (Whole n) = rw e at h in let s : at + 1 ≡ n = cc in (b ∷ [], bs, refl, rw e refl, omega arith)
+  | inl e ↦ let g : ◌≡◌ {A = Enclosed} (Whole (at + 1)) (Whole n) = rw e at h in let s : at + 1 ≡ n = cc in (b ∷ [], bs, refl, rw e refl, omega arith)
   | inr e ↦ elim (cases_Bool (is_iri b)) [
     | inl i ↦
         let g : iri_scan (at + 1) bs ≡ Whole n = rw (e, i) at h in
         let r = iri_found bs (at + 1) n g in
         let len = r.4 in
         (b ∷ r.0, r.1, ap (λ x. b ∷ x) r.2, iri_more b r.0 e i r.3, omega arith)
-    | inr i ↦ let g : ◌≡◌ {A = Scanned} (Bad at) (Whole n) = rw (e, i) at h in absurd (cc)
+    | inr i ↦ let g : ◌≡◌ {A = Enclosed} (Bad at) (Whole n) = rw (e, i) at h in absurd (cc)
   ]
 ]
 
 -- strings
 
+-- the whole of a string is found
 pub str_whole : (w rest : List ℕ) (at : ℕ) (esc : Bool) → str_rest esc w ≡ true → str_scan at esc (w ++ rest) ≡ Whole (at + length w)
 str_whole [] rest at true h = absurd (cc)
 str_whole [] rest at false h = absurd (cc)
@@ -110,10 +115,11 @@ str_whole (b ∷ bs) rest at false h = elim (cases_Bool (b == 34)) [
   | inr e ↦ rw e (str_whole bs rest (at + 1) (b == 92) (rw e at h) ∙ ap Whole (omega arith))
 ]
   where
-    last : (bs : List ℕ) → is_end bs ≡ true → ◌≡◌ {A = Scanned} (Whole (at + 1)) (Whole (at + length (b ∷ bs)))
+    last : (bs : List ℕ) → is_end bs ≡ true → ◌≡◌ {A = Enclosed} (Whole (at + 1)) (Whole (at + length (b ∷ bs)))
     last [] h = ap Whole (omega arith)
     last (c ∷ cs) h = absurd (cc)
 
+-- what is found is the whole of a string
 pub str_found : (bs : List ℕ) (at n : ℕ) (esc : Bool) → str_scan at esc bs ≡ Whole n → (w rest : List ℕ) × (bs ≡ w ++ rest) × (str_rest esc w ≡ true) × (at + length w ≡ n)
 str_found [] at n true h = absurd (cc)
 str_found [] at n false h = absurd (cc)
@@ -122,10 +128,10 @@ str_found (b ∷ bs) at n true h = elim (cases_Bool (b == 34 || b == 92)) [
       let r = str_found bs (at + 1) n false (rw e at h) in
       let len = r.4 in
       (b ∷ r.0, r.1, ap (λ x. b ∷ x) r.2, rw e r.3, omega arith)
-  | inr e ↦ let g : ◌≡◌ {A = Scanned} (Bad at) (Whole n) = rw e at h in absurd (cc)
+  | inr e ↦ let g : ◌≡◌ {A = Enclosed} (Bad at) (Whole n) = rw e at h in absurd (cc)
 ]
 str_found (b ∷ bs) at n false h = elim (cases_Bool (b == 34)) [
-  | inl e ↦ let g : ◌≡◌ {A = Scanned} (Whole (at + 1)) (Whole n) = rw e at h in let s : at + 1 ≡ n = cc in (b ∷ [], bs, refl, rw e refl, omega arith)
+  | inl e ↦ let g : ◌≡◌ {A = Enclosed} (Whole (at + 1)) (Whole n) = rw e at h in let s : at + 1 ≡ n = cc in (b ∷ [], bs, refl, rw e refl, omega arith)
   | inr e ↦
       let r = str_found bs (at + 1) n (b == 92) (rw e at h) in
       let len = r.4 in
@@ -134,6 +140,7 @@ str_found (b ∷ bs) at n false h = elim (cases_Bool (b == 34)) [
 
 -- a string that is not closed
 
+-- characters without an end are found so
 pub chars_endless : (bs : List ℕ) (at : ℕ) (esc : Bool) → are_chars esc bs ≡ true → str_scan at esc bs ≡ Endless
 chars_endless [] at true h = absurd (cc)
 chars_endless [] at false h = refl
@@ -145,15 +152,16 @@ chars_endless (b ∷ bs) at false h = elim (cases_Bool (b == 34)) [
   | inr e ↦ rw e (chars_endless bs (at + 1) (b == 92) (rw e at h))
 ]
 
+-- where no end is found, there are characters
 pub endless_chars : (bs : List ℕ) (at : ℕ) (esc : Bool) → str_scan at esc bs ≡ Endless → are_chars esc bs ≡ true
 endless_chars [] at true h = absurd (cc)
 endless_chars [] at false h = refl
 endless_chars (b ∷ bs) at true h = elim (cases_Bool (b == 34 || b == 92)) [
   | inl e ↦ rw e (endless_chars bs (at + 1) false (rw e at h))
-  | inr e ↦ let g : ◌≡◌ {A = Scanned} (Bad at) Endless = rw e at h in absurd (cc)
+  | inr e ↦ let g : ◌≡◌ {A = Enclosed} (Bad at) Endless = rw e at h in absurd (cc)
 ]
 endless_chars (b ∷ bs) at false h = elim (cases_Bool (b == 34)) [
-  | inl e ↦ let g : ◌≡◌ {A = Scanned} (Whole (at + 1)) Endless = rw e at h in absurd (cc)
+  | inl e ↦ let g : ◌≡◌ {A = Enclosed} (Whole (at + 1)) Endless = rw e at h in absurd (cc)
   | inr e ↦ rw e (endless_chars bs (at + 1) (b == 92) (rw e at h))
 ]
 
@@ -163,6 +171,7 @@ no_escape_scan : (more : List ℕ) (at : ℕ) → NoEscape more → str_scan at 
 no_escape_scan [] at h = refl
 no_escape_scan (b ∷ bs) at h = rw h refl
 
+-- a bad escape behind characters is found
 pub chars_bad : (w more : List ℕ) (at : ℕ) (esc : Bool) → are_chars esc w ≡ true → NoEscape more → str_scan at esc (w ++ (92 ∷ more)) ≡ Bad (at + length w + 1)
 chars_bad [] more at true h no_escape = absurd (cc)
 chars_bad [] more at false h no_escape = no_escape_scan more (at + 1) no_escape ∙ ap Bad (omega arith)
@@ -184,6 +193,7 @@ BadFrom false bs at n = BadLater false bs at n
 chars_more : (b : ℕ) (w : List ℕ) → (b == 34) ≡ false → are_chars (b == 92) w ≡ true → are_chars false (b ∷ w) ≡ true
 chars_more b w e h = rw e h
 
+-- what is found bad is a bad escape behind characters
 pub bad_found : (bs : List ℕ) (at n : ℕ) (esc : Bool) → str_scan at esc bs ≡ Bad n → BadFrom esc bs at n
 bad_found [] at n true h = inl (tt, cc)
 bad_found [] at n false h = absurd (cc)
@@ -192,10 +202,10 @@ bad_found (b ∷ bs) at n true h = elim (cases_Bool (b == 34 || b == 92)) [
       let r = bad_found bs (at + 1) n false (rw e at h) in
       let len = r.5 in
       inr (b ∷ r.0, r.1, ap (λ x. b ∷ x) r.2, rw e r.3, r.4, omega arith)
-  | inr e ↦ let g : ◌≡◌ {A = Scanned} (Bad at) (Bad n) = rw e at h in inl (e, cc)
+  | inr e ↦ let g : ◌≡◌ {A = Enclosed} (Bad at) (Bad n) = rw e at h in inl (e, cc)
 ]
 bad_found (b ∷ bs) at n false h = elim (cases_Bool (b == 34)) [
-  | inl e ↦ let g : ◌≡◌ {A = Scanned} (Whole (at + 1)) (Bad n) = rw e at h in absurd (cc)
+  | inl e ↦ let g : ◌≡◌ {A = Enclosed} (Whole (at + 1)) (Bad n) = rw e at h in absurd (cc)
   | inr e ↦ go (b == 92) refl (bad_found bs (at + 1) n (b == 92) (rw e at h)) e
 ]
   where
@@ -206,6 +216,7 @@ bad_found (b ∷ bs) at n false h = elim (cases_Bool (b == 34)) [
 
 -- blanks
 
+-- a scan of blanks ends at the end, or where no blank begins
 pub blank_told : (bs : List ℕ) (at : ℕ) (comment : Bool) → ((ends_blank comment bs ≡ true) × (blank_scan at comment bs ≡ at + length bs)) ⊎ ((w rest : List ℕ) × (bs ≡ w ++ rest) × (are_blank comment w ≡ true) × (at + length w ≡ blank_scan at comment bs) × NoBlank rest)
 blank_told [] at comment = inl (refl, omega arith)
 blank_told (b ∷ bs) at true = elim (blank_told bs (at + 1) (not (b == 10))) [
@@ -226,6 +237,7 @@ blank_told (b ∷ bs) at false = elim (cases_Bool (b == 35)) [
   ]
 ]
 
+-- the whole of a gap is found
 pub blank_whole : (w rest : List ℕ) (at : ℕ) (comment : Bool) → are_blank comment w ≡ true → NoBlank rest → blank_scan at comment (w ++ rest) ≡ at + length w
 blank_whole [] rest at true h no_blank = absurd (cc)
 blank_whole [] [] at false h no_blank = absurd no_blank
@@ -239,6 +251,7 @@ blank_whole (b ∷ w) rest at false h no_blank = elim (cases_Bool (b == 35)) [
       rw (e, p.0) (blank_whole w rest (at + 1) false p.1 no_blank ∙ omega arith)
 ]
 
+-- a gap up to the end is found
 pub ends_scan : (bs : List ℕ) (at : ℕ) (comment : Bool) → ends_blank comment bs ≡ true → blank_scan at comment bs ≡ at + length bs
 ends_scan [] at comment h = omega arith
 ends_scan (b ∷ bs) at true h = ends_scan bs (at + 1) (not (b == 10)) h ∙ omega arith

@@ -4,32 +4,29 @@ use Rattle.std.proofs.lemmas.List.{length-append}
 use Rattle.std.proofs.lemmas.Bool.{and_parts, cases_Bool}
 use Rattle.std.proofs.Math.ListN.{drop_of_length-le}
 use Rattle.std.proofs.Math.Seq.{take-append_seam, drop-append_seam}
+use Rattle.mast_source.proofs.ByteLemmas.{is_byte, other_byte}
+use Rattle.mast_source.proofs.ListLemmas.{take_split, drop_split}
 use Rattle.mast_tree.specs.declared.token.Token.{Token}
 use Rattle.mast_tree.specs.declared.token.TokenKind.{TokenKind}
 use Rattle.mast_tree.specs.declared.token.TokenKind.TheVariants.{Open, Close, Equals, Carets, Lang, Iri, Name, Str}
 use Rattle.mast_tree.specs.declared.token.LexBreach.{LexBreach}
-use Rattle.mast_tree.specs.declared.lexer.Front.{Front}
-use Rattle.mast_tree.specs.declared.lexer.Front.TheVariants as front
+use Rattle.mast_tree.specs.declared.scanner.Scanned.{Scanned}
+use Rattle.mast_tree.specs.declared.scanner.Scanned.TheVariants as scanned
 use Rattle.mast_tree.specs.Tokens.{is_name, is_blank, are_blank, is_token, is_end, iri_rest, str_rest, are_name, are_lang, is_lang, feeds}
-use Rattle.mast_tree.specs.Scan.{blank_scan, front as front_of}
+use Rattle.mast_tree.specs.inside.Scanner.{blank_scan, longest_token}
 use Rattle.mast_tree.specs.Source.{IsLongest, Lexes, NoBlank, Stops}
-use Rattle.mast_tree.specs.Lexed.{Lexed, read, wrong, added, on_front, on_rest, lexed}
-use Rattle.mast_tree.proofs.ScanLemmas.{is_byte, blank_told, blank_whole, ends_scan}
-use Rattle.mast_tree.proofs.FrontLemmas.{FrontTells, front_tells, front_of_token, front_of_wrong}
+use Rattle.mast_tree.specs.inside.Lexed.{Lexed, read, wrong, added, on_scanned, on_rest, lexed}
+use Rattle.mast_tree.proofs.ScanLemmas.{blank_told, blank_whole, ends_scan}
+use Rattle.mast_tree.proofs.LongestLemmas.{ScannedTells, scanned_tells, longest_of_token, longest_of_wrong}
 
 -- what is read is right
 abbrev pub Told : ℕ → ℕ → List ℕ → Lexed → Type 0
 Told at line bytes (read tokens) = Lexes at line bytes tokens
 Told at line bytes (wrong breach) = (before : List Token) × Stops at bytes before breach
 
-take_split : (w rest bs : List ℕ) (n : ℕ) → bs ≡ w ++ rest → length w ≡ n → take n bs ≡ w
-take_split w rest bs n e l = ap (λ m. take m bs) (sym l) ∙ ap (λ x. take (length w) x) e ∙ take-append_seam w rest
-
-drop_split : (w rest bs : List ℕ) (n : ℕ) → bs ≡ w ++ rest → length w ≡ n → drop n bs ≡ rest
-drop_split w rest bs n e l = ap (λ m. drop m bs) (sym l) ∙ ap (λ x. drop (length w) x) e ∙ drop-append_seam w rest
-
 -- a token has a byte at least, and begins no blank and no comment
 
+-- a token has a byte at least
 pub word_some : (k : TokenKind) (w : List ℕ) → is_token k w ≡ true → 0 < length w
 word_some k [] h = absurd (cc)
 word_some k (b ∷ w) h = omega arith
@@ -37,15 +34,9 @@ word_some k (b ∷ w) h = omega arith
 blank_byte : (b n : ℕ) → (b == n) ≡ true → is_blank n ≡ false → (n == 35) ≡ false → (is_blank b ≡ false) × ((b == 35) ≡ false)
 blank_byte b n e h g = let s = is_byte b n e in (subst (λ x. is_blank x ≡ false) (sym s) h, subst (λ x. (x == 35) ≡ false) (sym s) g)
 
-name_not : (b n : ℕ) → is_name b ≡ true → is_name n ≡ false → (b == n) ≡ false
-name_not b n h q = elim (cases_Bool (b == n)) [
-  | inl e ↦ absurd (let s = is_byte b n e in let f : is_name n ≡ true = subst (λ x. is_name x ≡ true) s h in cc)
-  | inr e ↦ e
-]
-
 name_no_blank : (b : ℕ) → is_name b ≡ true → (is_blank b ≡ false) × ((b == 35) ≡ false)
 unfolding is_name is_blank
-name_no_blank b h = (rw (name_not b 32 h refl, name_not b 9 h refl, name_not b 13 h refl, name_not b 10 h refl) refl, name_not b 35 h refl)
+name_no_blank b h = (rw (other_byte is_name b 32 h refl, other_byte is_name b 9 h refl, other_byte is_name b 13 h refl, other_byte is_name b 10 h refl) refl, other_byte is_name b 35 h refl)
 
 token_no_blank : (k : TokenKind) (w rest : List ℕ) → is_token k w ≡ true → NoBlank (w ++ rest)
 unfolding is_blank
@@ -67,9 +58,9 @@ cons_told : (at line : ℕ) (bs gap word rest : List ℕ) (t : Token) (l : Lexed
 cons_told at line bs gap word rest t (read ts) e b i f o n h = (gap, word, rest, e, b, i, f, o, n, h)
 cons_told at line bs gap word rest t (wrong breach) e b i f o n h = (t ∷ h.0, (gap, word, rest, e, b, i, f, o, h.1))
 
-front_told : (turns at line : ℕ) (bs gap after : List ℕ) (f : Front) → bs ≡ gap ++ after → are_blank false gap ≡ true → NoBlank after → FrontTells after f → length bs ≤ suc turns → ((from line : ℕ) (rest : List ℕ) → length rest ≤ turns → Told from line rest (lexed turns from line rest)) → Told at line bs (on_front f (at + length gap) (line + feeds gap) after (lexed turns))
-front_told turns at line bs gap after (front.Wrong k n) e b no_blank t size more = ([], (gap, after, n, e, b, no_blank, t.0, t.1, refl))
-front_told turns at line bs gap after (front.Token k n) e b no_blank t size more =
+scanned_told : (turns at line : ℕ) (bs gap after : List ℕ) (f : Scanned) → bs ≡ gap ++ after → are_blank false gap ≡ true → NoBlank after → ScannedTells after f → length bs ≤ suc turns → ((from line : ℕ) (rest : List ℕ) → length rest ≤ turns → Told from line rest (lexed turns from line rest)) → Told at line bs (on_scanned f (at + length gap) (line + feeds gap) after (lexed turns))
+scanned_told turns at line bs gap after (scanned.Wrong k n) e b no_blank t size more = ([], (gap, after, n, e, b, no_blank, t.0, t.1, refl))
+scanned_told turns at line bs gap after (scanned.Token k n) e b no_blank t size more =
     let word = t.0 in
     let rest = t.1 in
     let from = at + length gap in
@@ -85,8 +76,9 @@ front_told turns at line bs gap after (front.Token k n) e b no_blank t size more
 
 rest_told : (turns at line : ℕ) (bs gap after : List ℕ) → bs ≡ gap ++ after → are_blank false gap ≡ true → NoBlank after → length bs ≤ suc turns → ((from line : ℕ) (rest : List ℕ) → length rest ≤ turns → Told from line rest (lexed turns from line rest)) → Told at line bs (on_rest (at + length gap) (line + feeds gap) after (lexed turns))
 rest_told turns at line bs gap [] e b no_blank size more = absurd no_blank
-rest_told turns at line bs gap (c ∷ after) e b no_blank size more = front_told turns at line bs gap (c ∷ after) (front_of (c ∷ after)) e b no_blank (front_tells (c ∷ after)) size more
+rest_told turns at line bs gap (c ∷ after) e b no_blank size more = scanned_told turns at line bs gap (c ∷ after) (longest_token (c ∷ after)) e b no_blank (scanned_tells (c ∷ after)) size more
 
+-- what bytes read as is right
 pub lexed_told : (turns at line : ℕ) (bs : List ℕ) → length bs ≤ turns → Told at line bs (lexed turns at line bs)
 lexed_told zero at line [] h = refl
 lexed_told zero at line (b ∷ bs) h = absurd (omega arith)
@@ -114,9 +106,9 @@ gap_turn turns at line bs gap after e b no_blank =
     add_zero : (n : ℕ) → 0 + n ≡ n
     add_zero n = omega arith
 
-rest_front : (from line : ℕ) (after : List ℕ) (more : ℕ → ℕ → List ℕ → Lexed) → NoBlank after → on_rest from line after more ≡ on_front (front_of after) from line after more
-rest_front from line [] more h = absurd h
-rest_front from line (b ∷ after) more h = refl
+rest_scanned : (from line : ℕ) (after : List ℕ) (more : ℕ → ℕ → List ℕ → Lexed) → NoBlank after → on_rest from line after more ≡ on_scanned (longest_token after) from line after more
+rest_scanned from line [] more h = absurd h
+rest_scanned from line (b ∷ after) more h = refl
 
 token_turn : (turns at line : ℕ) (bs gap word rest : List ℕ) (k : TokenKind) → bs ≡ gap ++ (word ++ rest) → are_blank false gap ≡ true → IsLongest k word rest → lexed (suc turns) at line bs ≡ added (record { kind = k; from = at + length gap; to = at + length gap + length word; line = line + feeds gap } ∷ []) (lexed turns (at + length gap + length word) (line + feeds gap + feeds word) rest)
 token_turn turns at line bs gap word rest k e b i =
@@ -125,8 +117,8 @@ token_turn turns at line bs gap word rest k e b i =
     let token : Token = record { kind = k; from = from; to = from + length word; line = here } in
     let no_blank = token_no_blank k word rest i.form in
     gap_turn turns at line bs gap (word ++ rest) e b no_blank
-    ∙ rest_front from here (word ++ rest) (lexed turns) no_blank
-    ∙ ap (λ f. on_front f from here (word ++ rest) (lexed turns)) (front_of_token k word rest i)
+    ∙ rest_scanned from here (word ++ rest) (lexed turns) no_blank
+    ∙ ap (λ f. on_scanned f from here (word ++ rest) (lexed turns)) (longest_of_token k word rest i)
     ∙ ap (λ x. added (token ∷ []) (lexed turns (from + length word) (here + feeds x) (drop (length word) (word ++ rest)))) (take-append_seam word rest)
     ∙ ap (λ x. added (token ∷ []) (lexed turns (from + length word) (here + feeds word) x)) (drop-append_seam word rest)
 
@@ -156,6 +148,7 @@ not_empty bs gap word rest k e i h =
     let more = length-append word rest in
     omega arith
 
+-- bytes read as the tokens that they are
 pub lexes_read : (turns at line : ℕ) (bs : List ℕ) (ts : List Token) → length bs ≤ turns → Lexes at line bs ts → lexed turns at line bs ≡ read ts
 lexes_read zero at line bs [] h t = refl
 lexes_read zero at line bs (u ∷ ts) h t = absurd (not_empty bs t.0 t.1 t.2 u.kind t.3 t.5.form h)
@@ -170,6 +163,7 @@ lexes_read (suc turns) at line bs (u ∷ ts) h t =
 breach_is : (b : LexBreach) (n : ℕ) → b.at ≡ n → ◌≡◌ {A = LexBreach} (record { at = n; kind = b.kind }) b
 breach_is b n e = λ i. record { at = sym e i; kind = b.kind }
 
+-- bytes read up to the breach that they have
 pub stops_wrong : (turns at line : ℕ) (bs : List ℕ) (before : List Token) (b : LexBreach) → length bs ≤ turns → Stops at bs before b → lexed turns at line bs ≡ wrong b
 stops_wrong zero at line bs [] b h t = absurd (nothing t.1 t.5 (let l = ap length t.3 ∙ length-append t.0 t.1 in omega arith))
   where
@@ -179,8 +173,8 @@ stops_wrong zero at line bs [] b h t = absurd (nothing t.1 t.5 (let l = ap lengt
 stops_wrong zero at line bs (u ∷ ts) b h t = absurd (not_empty bs t.0 t.1 t.2 u.kind t.3 t.5.form h)
 stops_wrong (suc turns) at line bs [] b h t =
     gap_turn turns at line bs t.0 t.1 t.3 t.4 t.5
-    ∙ rest_front (at + length t.0) (line + feeds t.0) t.1 (lexed turns) t.5
-    ∙ ap (λ f. on_front f (at + length t.0) (line + feeds t.0) t.1 (lexed turns)) (front_of_wrong b.kind t.2 t.1 t.6 t.7)
+    ∙ rest_scanned (at + length t.0) (line + feeds t.0) t.1 (lexed turns) t.5
+    ∙ ap (λ f. on_scanned f (at + length t.0) (line + feeds t.0) t.1 (lexed turns)) (longest_of_wrong b.kind t.2 t.1 t.6 t.7)
     ∙ ap (λ x. wrong x) (breach_is b (at + length t.0 + t.2) t.8)
 stops_wrong (suc turns) at line bs (u ∷ ts) b h t =
     let token : Token = record { kind = u.kind; from = u.from; to = u.to; line = line + feeds t.0 } in

@@ -4,14 +4,15 @@ use Rattle.std.specs.Prelude.{Some, slice_get}
 use Rattle.std.proofs.lemmas.List.{length-append, take-append-drop}
 use Rattle.std.proofs.lemmas.Bool.{and_parts, cases_Bool}
 use Rattle.std.proofs.Math.Seq.{take-append_seam, drop-append_seam}
+use Rattle.mast_source.specs.Bom.{bom_length}
+use Rattle.mast_source.proofs.BomLemmas.{bom_within, bom_taken}
 use Rattle.mast_tree.specs.declared.token.Token.{Token}
 use Rattle.mast_tree.specs.Tokens.{is_token, feeds}
-use Rattle.mast_tree.specs.Source.{Lexes, AreTokens, mark_of}
+use Rattle.mast_tree.specs.Source.{Lexes, AreTokens}
 use Rattle.mast_tree.specs.Words.{span}
 use Rattle.mast_tree.specs.Laws.{IsPlaced, ArePlaced}
-use Rattle.mast_tree.proofs.ScanLemmas.{is_byte}
+use Rattle.mast_source.proofs.ByteLemmas.{is_byte}
 use Rattle.mast_tree.proofs.SourceLemmas.{word_some}
-use Rattle.mast_tree.proofs.Utf8Lemmas.{mark_within}
 
 feeds_append : (a b : List ℕ) → feeds (a ++ b) ≡ feeds a + feeds b
 feeds_append [] b = omega arith
@@ -82,31 +83,24 @@ in_order (v ∷ x ∷ ts) at line bs zero t u l s w =
     subst (λ y. t.to ≤ y.from) next (subst (λ y. y.to ≤ x.from) same (omega arith))
 in_order (v ∷ ts) at line bs (suc i) t u l s w = in_order ts v.to (v.line + feeds l.1) l.2 i t u l.9 s w
 
-mark_feeds : (source : List ℕ) → feeds (take (mark_of source) source) ≡ 0
-mark_feeds [] = refl
-mark_feeds (a ∷ []) = refl
-mark_feeds (a ∷ b ∷ []) = refl
-mark_feeds (a ∷ b ∷ c ∷ bs) = elim (cases_Bool (a == 239 && b == 187 && c == 191)) [
-  | inl e ↦ rw e (marked e)
-  | inr e ↦ rw e refl
+-- a byte order mark has no line feed
+bom_feeds : (source : List ℕ) → feeds (take (bom_length source) source) ≡ 0
+bom_feeds source = elim (bom_taken source) [
+  | inl e ↦ ap feeds e
+  | inr e ↦ ap feeds e
 ]
-  where
-    marked : (a == 239 && b == 187 && c == 191) ≡ true → feeds (a ∷ b ∷ c ∷ []) ≡ 0
-    marked e =
-        let p = and_parts (a == 239 && b == 187) (c == 191) e in
-        let q = and_parts (a == 239) (b == 187) p.0 in
-        ap (λ x. feeds (x ∷ b ∷ c ∷ [])) (is_byte a 239 q.0) ∙ ap (λ x. feeds (239 ∷ x ∷ c ∷ [])) (is_byte b 187 q.1) ∙ ap (λ x. feeds (239 ∷ 187 ∷ x ∷ [])) (is_byte c 191 p.1)
 
 take_size : (n : ℕ) (xs : List ℕ) → n ≤ length xs → length (take n xs) ≡ n
 take_size zero xs h = refl
 take_size (suc n) [] h = absurd (omega arith)
 take_size (suc n) (x ∷ xs) h = ap suc (take_size n xs (omega arith))
 
+-- the tokens of a source are placed in it, in order
 pub are_placed : (source : List ℕ) (tokens : List Token) → AreTokens source tokens → ArePlaced source tokens
 are_placed source tokens a =
-    let m = mark_of source in
-    let f = mark_feeds source in
-    let start : Reached source m 1 (drop m source) = record { before = take m source; whole = sym (take-append-drop m source); offset = sym (take_size m source (mark_within source)); lines = omega arith } in
+    let m = bom_length source in
+    let f = bom_feeds source in
+    let start : Reached source m 1 (drop m source) = record { before = take m source; whole = sym (take-append-drop m source); offset = sym (take_size m source (bom_within source)); lines = omega arith } in
     record {
       each = λ i t s. each_placed source tokens m 1 (drop m source) i t start a.1 s;
       in_order = λ i t u s w. in_order tokens m 1 (drop m source) i t u a.1 s w;

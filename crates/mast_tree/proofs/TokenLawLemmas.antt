@@ -4,23 +4,26 @@ use Rattle.std.specs.Prelude.{Result, Ok, Err}
 use Rattle.std.specs.Str.{IsUtf8, IsValidUpTo, is_utf8}
 use Rattle.mast_terms.specs.declared.memory.Stop.{Stop}
 use Rattle.mast_terms.specs.declared.memory.Stop.TheVariants.{Named, NoMemory}
-use Rattle.mast_tree.specs.Outcome.{Answers}
+use Rattle.mast_terms.specs.Answers.{Answers}
 use Rattle.std.proofs.lemmas.Str.{IsUtf8-nil, IsUtf8-from_is_utf8, is_utf8-from_IsUtf8, utf8_valid_len-IsValidUpTo}
 use Rattle.std.proofs.lemmas.List.{length-drop}
 use Rattle.std.proofs.lemmas.Bool.{cases_Bool}
+use Rattle.mast_source.specs.Bom.{bom_length}
+use Rattle.mast_source.proofs.ListLemmas.{take_all}
 use Rattle.mast_tree.specs.declared.token.Token.{Token}
 use Rattle.mast_tree.specs.declared.token.LexKind.TheVariants.{NotUtf8}
 use Rattle.mast_tree.specs.declared.token.LexBreach.{LexBreach}
-use Rattle.mast_tree.specs.Source.{Stops, mark_of, AreTokens, IsLexBreach}
-use Rattle.mast_tree.specs.Lexed.{Lexed, read, wrong, reading}
+use Rattle.mast_tree.specs.Source.{Stops, AreTokens, IsLexBreach}
+use Rattle.mast_tree.specs.inside.Lexed.{Lexed, read, wrong, reading}
 use Rattle.mast_tree.specs.Laws.{HasOneReading}
 use Rattle.mast_tree.proofs.SourceLemmas.{Told, lexed_told, lexes_read, stops_wrong}
 
-within : (source : List ℕ) → length (drop (mark_of source) source) ≤ length source
-within source = let l = length-drop (mark_of source) source in omega arith
+within : (source : List ℕ) → length (drop (bom_length source) source) ≤ length source
+within source = let l = length-drop (bom_length source) source in omega arith
 
-pub reading_told : (source : List ℕ) → Told (mark_of source) 1 (drop (mark_of source) source) (reading source)
-reading_told source = lexed_told (length source) (mark_of source) 1 (drop (mark_of source) source) (within source)
+-- what a source reads as is right
+pub reading_told : (source : List ℕ) → Told (bom_length source) 1 (drop (bom_length source) source) (reading source)
+reading_told source = lexed_told (length source) (bom_length source) 1 (drop (bom_length source) source) (within source)
 
 -- the longest front that is UTF-8
 longest_front : (bs : List ℕ) (m : ℕ) → ((k : ℕ) → m < k → IsUtf8 (take k bs) → ⊥) → (n : ℕ) × (n ≤ m) × IsUtf8 (take n bs) × ((k : ℕ) → n < k → IsUtf8 (take k bs) → ⊥)
@@ -52,12 +55,6 @@ longest_front bs (suc m) h = elim (cases_Bool (is_utf8 (take (suc m) bs))) [
       | inr s ↦ h k s u
     ]
 
-take_all : (bs : List ℕ) (k : ℕ) → length bs ≤ k → take k bs ≡ bs
-take_all [] zero h = refl
-take_all [] (suc k) h = refl
-take_all (b ∷ bs) zero h = absurd (omega arith)
-take_all (b ∷ bs) (suc k) h = ap (λ x. b ∷ x) (take_all bs k (omega arith))
-
 valid_up_to : (bs : List ℕ) → (IsUtf8 bs → ⊥) → (n : ℕ) × IsValidUpTo bs n
 valid_up_to bs no_text =
     let t = longest_front bs (length bs) (λ k l u. no_text (subst IsUtf8 (take_all bs k (omega arith)) u)) in
@@ -72,12 +69,12 @@ valid_up_to bs no_text =
         go (suc n) zero l h = absurd (omega arith)
         go (suc n) (suc m) l h = let r = go n m (omega arith) (λ e. h (ap suc e)) in omega arith
 
-either_reading : (source : List ℕ) → IsUtf8 source → (l : Lexed) → Told (mark_of source) 1 (drop (mark_of source) source) l → ((tokens : List Token) × AreTokens source tokens) ⊎ ((breach : LexBreach) × IsLexBreach source breach)
+either_reading : (source : List ℕ) → IsUtf8 source → (l : Lexed) → Told (bom_length source) 1 (drop (bom_length source) source) l → ((tokens : List Token) × AreTokens source tokens) ⊎ ((breach : LexBreach) × IsLexBreach source breach)
 either_reading source u (read ts) t = inl (ts, (u, t))
 either_reading source u (wrong b) t = inr (b, inr (u, t.0, t.1))
 
 pub tokens_read : (source : List ℕ) (tokens : List Token) → AreTokens source tokens → reading source ≡ read tokens
-tokens_read source tokens t = lexes_read (length source) (mark_of source) 1 (drop (mark_of source) source) tokens (within source) t.1
+tokens_read source tokens t = lexes_read (length source) (bom_length source) 1 (drop (bom_length source) source) tokens (within source) t.1
 
 same_list : (a b : List Token) → ◌≡◌ {A = Lexed} (read a) (read b) → a ≡ b
 same_list a b h = cc
@@ -91,9 +88,10 @@ not_same a b h = cc
 breach_of : (a b : LexBreach) → a.kind ≡ b.kind → a.at ≡ b.at → a ≡ b
 breach_of a b k n = λ i. record { at = n i; kind = k i }
 
-pub stopped : (source : List ℕ) (before : List Token) (b : LexBreach) → Stops (mark_of source) (drop (mark_of source) source) before b → reading source ≡ wrong b
-stopped source before b t = stops_wrong (length source) (mark_of source) 1 (drop (mark_of source) source) before b (within source) t
+pub stopped : (source : List ℕ) (before : List Token) (b : LexBreach) → Stops (bom_length source) (drop (bom_length source) source) before b → reading source ≡ wrong b
+stopped source before b t = stops_wrong (length source) (bom_length source) 1 (drop (bom_length source) source) before b (within source) t
 
+-- a source has one token list or one first breach
 pub has_one_reading : (source : List ℕ) → HasOneReading source
 has_one_reading source = record {
   either = elim (cases_Bool (is_utf8 source)) [
@@ -117,6 +115,6 @@ has_one_reading source = record {
 
 -- what is read of a text is its tokens or its breach
 pub answered : (source : List ℕ) (r : Result (List Token) (Stop LexBreach)) → IsUtf8 source → Answers r (λ tokens. reading source ≡ read tokens) (λ breach. reading source ≡ wrong breach) → Answers r (AreTokens source) (IsLexBreach source)
-answered source (Ok tokens) u h = (u, subst (λ l. Told (mark_of source) 1 (drop (mark_of source) source) l) h (reading_told source))
-answered source (Err (Named b)) u h = let t = subst (λ l. Told (mark_of source) 1 (drop (mark_of source) source) l) h (reading_told source) in inr (u, t.0, t.1)
+answered source (Ok tokens) u h = (u, subst (λ l. Told (bom_length source) 1 (drop (bom_length source) source) l) h (reading_told source))
+answered source (Err (Named b)) u h = let t = subst (λ l. Told (bom_length source) 1 (drop (bom_length source) source) l) h (reading_told source) in inr (u, t.0, t.1)
 answered source (Err NoMemory) u h = tt

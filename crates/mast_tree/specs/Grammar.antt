@@ -1,5 +1,7 @@
 -- Which lists of token kinds are documents, and where the first breach is.
-use Rattle.std.specs.Prelude.{◌≡◌, ℕ, zero, suc, ◌<◌, ◌≤◌, List, [], ◌∷◌, ◌++◌, length, take, Some, slice_get}
+use Rattle.std.specs.Prelude.{◌≡◌, ℕ, zero, suc, ◌<◌, ◌≤◌, List, [], ◌∷◌, ◌++◌, take, Some, slice_get}
+use Rattle.mast_source.specs.Grammar.{UnexpectedAt}
+use Rattle.mast_tree.specs.declared.item.TheConstants.{MOST_OPEN}
 use Rattle.mast_tree.specs.declared.token.TokenKind.{TokenKind}
 use Rattle.mast_tree.specs.declared.token.TokenKind.TheVariants.{Open, Close, Equals, Carets, Lang, Iri, Name, Str}
 
@@ -27,12 +29,13 @@ kinds_of (str_iri more) = Str ∷ Carets ∷ Iri ∷ kinds_of more
 kinds_of (bind more) = Name ∷ Equals ∷ Iri ∷ kinds_of more
 kinds_of (node inside more) = Name ∷ Open ∷ kinds_of inside ++ Close ∷ kinds_of more
 
-abbrev pub IsDocument : List TokenKind → Type 0
-IsDocument ks = (items : Items) × (ks ≡ kinds_of items)
+-- the grammar: kinds, and the items that they are the tokens of
+abbrev pub Spells : List TokenKind → Items → Type 0
+Spells ks items = ks ≡ kinds_of items
 
--- some document begins with these
-abbrev pub Begins : List TokenKind → Type 0
-Begins ks = (more : List TokenKind) × IsDocument (ks ++ more)
+-- these kinds are a document
+abbrev pub IsDocument : List TokenKind → Type 0
+IsDocument ks = (items : Items) × Spells ks items
 
 -- how many parentheses are open after these, from some on
 abbrev pub open_after : ℕ → List TokenKind → ℕ
@@ -42,16 +45,9 @@ open_after zero (Close ∷ ks) = open_after zero ks
 open_after (suc n) (Close ∷ ks) = open_after n ks
 open_after n (k ∷ ks) = open_after n ks
 
--- some document begins with the tokens before i, and none with token i as well; or they are all tokens and no document
-pub record UnexpectedAt (ks : List TokenKind) (i : ℕ) : Type 0 where
-  pub within : i ≤ length ks
-  pub begins : Begins (take i ks)
-  pub next : i < length ks → Begins (take (suc i) ks) → ⊥
-  pub whole : i ≡ length ks → IsDocument ks → ⊥
-
--- token i is an opening parenthesis before which 64 are open
+-- token i is an opening parenthesis before which as many are open as may be
 abbrev pub DeepAt : List TokenKind → ℕ → Type 0
-DeepAt ks i = (slice_get ks i ≡ Some Open) × (open_after 0 (take i ks) ≡ 64)
+DeepAt ks i = (slice_get ks i ≡ Some Open) × (open_after 0 (take i ks) ≡ MOST_OPEN)
 
 -- whether a list of kinds is a document, and if not, where its first breach is
 pub data Found : Type 0 where
@@ -62,5 +58,5 @@ pub data Found : Type 0 where
 -- what is told of a list of kinds: the first breach, where the 65th parenthesis comes first at one token
 abbrev pub Tells : List TokenKind → Found → Type 0
 Tells ks fine = IsDocument ks × ((i : ℕ) → DeepAt ks i → ⊥)
-Tells ks (unexpected i) = UnexpectedAt ks i × ((j : ℕ) → j ≤ i → DeepAt ks j → ⊥)
-Tells ks (deep i) = DeepAt ks i × ((j : ℕ) → j < i → DeepAt ks j → ⊥) × ((j : ℕ) → j < i → UnexpectedAt ks j → ⊥)
+Tells ks (unexpected i) = UnexpectedAt Spells ks i × ((j : ℕ) → j ≤ i → DeepAt ks j → ⊥)
+Tells ks (deep i) = DeepAt ks i × ((j : ℕ) → j < i → DeepAt ks j → ⊥) × ((j : ℕ) → j < i → UnexpectedAt Spells ks j → ⊥)

@@ -9,7 +9,7 @@ use Rattle.mast_tree.specs.Tokens.{is_token, feeds}
 use Rattle.mast_tree.specs.Words.{span}
 use Rattle.mast_tree.specs.Trees.{IsTree, IsTreeBreach}
 use Rattle.mast_tree.specs.declared.shape.ShapeBreach.{ShapeBreach}
-use Rattle.mast_tree.specs.PrefixNodes.{IsFront, IsFrontBreach}
+use Rattle.mast_tree.specs.Prologue.{IsPrologue, IsPrologueBreach}
 
 -- tokens have one tree, or one first breach, and not both
 pub record HasOneTree (tokens : List Token) : Type 0 where
@@ -18,6 +18,7 @@ pub record HasOneTree (tokens : List Token) : Type 0 where
   pub one_tree : (a b : List Item) → IsTree tokens a → IsTree tokens b → a ≡ b
   pub one_breach : (a b : TreeBreach) → IsTreeBreach tokens a → IsTreeBreach tokens b → a ≡ b
 
+-- so have all tokens
 abbrev pub TreeLaw : Type 0
 TreeLaw = (tokens : List Token) → HasOneTree tokens
 
@@ -28,6 +29,7 @@ pub record HasOneReading (source : List ℕ) : Type 0 where
   pub one_list : (a b : List Token) → AreTokens source a → AreTokens source b → a ≡ b
   pub one_breach : (a b : LexBreach) → IsLexBreach source a → IsLexBreach source b → a ≡ b
 
+-- so has each source
 abbrev pub TokenLaw : Type 0
 TokenLaw = (source : List ℕ) → HasOneReading source
 
@@ -43,15 +45,17 @@ pub record ArePlaced (source : List ℕ) (tokens : List Token) : Type 0 where
   pub each : (i : ℕ) (t : Token) → slice_get tokens i ≡ Some t → IsPlaced source t
   pub in_order : (i : ℕ) (t u : Token) → slice_get tokens i ≡ Some t → slice_get tokens (suc i) ≡ Some u → t.to ≤ u.from
 
+-- so are the tokens of each source
 abbrev pub SpanLaw : Type 0
 SpanLaw = (source : List ℕ) (tokens : List Token) → AreTokens source tokens → ArePlaced source tokens
 
 -- the items of a document have one table of prefixes up to the main node, or one first breach, and not both
-pub record HasOneFront (source : List ℕ) (tokens : List Token) (word : List ℕ) (items : List Item) : Type 0 where
-  pub either : ((table : List (List ℕ × List ℕ)) × IsFront source tokens word items table) ⊎ ((breach : ShapeBreach) × IsFrontBreach source tokens word items breach)
-  pub not_both : (table : List (List ℕ × List ℕ)) (breach : ShapeBreach) → IsFront source tokens word items table → IsFrontBreach source tokens word items breach → ⊥
-  pub one_table : (a b : List (List ℕ × List ℕ)) → IsFront source tokens word items a → IsFront source tokens word items b → a ≡ b
-  pub one_breach : (a b : ShapeBreach) → IsFrontBreach source tokens word items a → IsFrontBreach source tokens word items b → a ≡ b
+pub record HasOnePrologue (source : List ℕ) (tokens : List Token) (word : List ℕ) (items : List Item) : Type 0 where
+  pub either : ((table : List (List ℕ × List ℕ)) × IsPrologue source tokens word items table) ⊎ ((breach : ShapeBreach) × IsPrologueBreach source tokens word items breach)
+  pub not_both : (table : List (List ℕ × List ℕ)) (breach : ShapeBreach) → IsPrologue source tokens word items table → IsPrologueBreach source tokens word items breach → ⊥
+  pub one_table : (a b : List (List ℕ × List ℕ)) → IsPrologue source tokens word items a → IsPrologue source tokens word items b → a ≡ b
+  pub one_breach : (a b : ShapeBreach) → IsPrologueBreach source tokens word items a → IsPrologueBreach source tokens word items b → a ≡ b
 
-abbrev pub FrontLaw : Type 0
-FrontLaw = (source : List ℕ) (tokens : List Token) (word : List ℕ) (items : List Item) → HasOneFront source tokens word items
+-- so have all items
+abbrev pub PrologueLaw : Type 0
+PrologueLaw = (source : List ℕ) (tokens : List Token) (word : List ℕ) (items : List Item) → HasOnePrologue source tokens word items

@@ -33,6 +33,7 @@ kinds tokens = map (λ (t : Token). t.kind) tokens
 abbrev pub IsTree : List Token → List Item → Type 0
 IsTree tokens items = Stand (kinds tokens) items × ((i : ℕ) → DeepAt (kinds tokens) i → ⊥)
 
+-- what a breach tells
 abbrev pub found_of : TreeKind → ℕ → Found
 found_of Unexpected i = unexpected i
 found_of Deep i = deep i

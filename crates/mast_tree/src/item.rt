@@ -1,14 +1,8 @@
-// Documents and their items.
-use crate::Token;
+//! Items, and why tokens are none.
 use sqlite_items::{Boxed, Items};
 
-/// The documents.
-#[derive(Clone, Copy, Debug, PartialEq, Eq)]
-pub enum DocName {
-    Ontology,
-    Constraints,
-    Mappings,
-}
+/// How many parentheses may be open.
+pub const MOST_OPEN: usize = 64;
 
 /// An item, by the numbers of its tokens, from 0: a name or an IRI alone, a string and its language or type,
 /// a binding, or a node with a name and the items between its parentheses. (The box keeps each item as small as a leaf.)
@@ -34,20 +28,12 @@ pub enum Item {
     },
 }
 
-/// A document: its bytes, their tokens, and the items that stand for these.
-#[derive(Debug, Drop)]
-pub struct Doc<'a> {
-    pub source: &'a [u8],
-    pub tokens: &'a [Token],
-    pub items: Items<Item>,
-}
-
 /// Why tokens are no document.
 #[derive(Clone, Copy, Debug, PartialEq, Eq)]
 pub enum TreeKind {
     /// Some document begins with the tokens before, and none with this one as well.
     Unexpected,
-    /// The parenthesis would be the 65th open one.
+    /// The parenthesis would be one more than may be open.
     Deep,
 }
 

@@ -1,5 +1,5 @@
-// What the definitions promise by themselves: laws, which no code calls.
-ghost use Rattle.mast_tree.specs.Laws.{FrontLaw, SpanLaw, TokenLaw, TreeLaw};
+//! What the definitions promise by themselves: laws, which no code calls.
+ghost use Rattle.mast_tree.specs.Laws.{PrologueLaw, SpanLaw, TokenLaw, TreeLaw};
 
 /// Tokens have a tree or a first breach of the grammar, not both, and only one.
 pub fn tree_law()
@@ -17,6 +17,6 @@ pub fn span_law()
 {}
 
 /// The items of a document have one table of prefixes up to the main node or one first breach, and not both.
-pub fn front_law()
-    ensures { FrontLaw }
+pub fn prologue_law()
+    ensures { PrologueLaw }
 {}

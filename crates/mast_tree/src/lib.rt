@@ -1,27 +1,27 @@
 //! Tokens and trees of a document: the ontology, the constraints or the mappings.
 //! The crates above rest on this: a document is the tree that the grammar gives, or the answer is its first breach.
-//! In `specs/`, `Source` has the tokens, `Grammar` and `Trees` the trees, `PrefixNodes` the prefixes and `Prefixes` the IRIs.
+//! In `specs/`, `Source` has the tokens, `Grammar` and `Trees` the trees, `Prologue` what a document begins with, `Prefixes` the IRIs.
 //! It must not know what a node means: neither axioms nor tables.
 #![tactic(auto)]
 
+mod document;
 mod item;
 mod laws;
-mod lexer;
-mod place;
+mod parser;
 mod prefix;
-mod reader;
-mod scan;
+mod prologue;
+mod scanner;
 mod shape;
-#[cfg(test)]
-mod tests;
 mod token;
+mod token_list;
 mod trees;
 mod words;
 
-pub use item::{Doc, DocName, Item, TreeBreach, TreeKind};
-pub use laws::{front_law, span_law, token_law, tree_law};
-pub use lexer::tokens;
-pub use prefix::{PrefixTable, prefixes};
-pub use reader::read_doc;
+pub use document::{Doc, DocName, read_doc};
+pub use item::{Item, TreeBreach, TreeKind};
+pub use laws::{prologue_law, span_law, token_law, tree_law};
+pub use prefix::PrefixTable;
+pub use prologue::prefixes;
 pub use shape::{ShapeBreach, ShapeKind};
 pub use token::{LexBreach, LexKind, Token, TokenKind};
+pub use token_list::tokens;

@@ -1,4 +1,4 @@
-// What is wrong with an item in its place.
+//! What is wrong with an item in its place.
 
 /// Why a tree is no ontology, no constraints or no mappings. The last four are limits.
 #[derive(Clone, Copy, Debug, PartialEq, Eq)]

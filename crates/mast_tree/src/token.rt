@@ -1,4 +1,4 @@
-// Tokens, and what is wrong where none stands.
+//! Tokens, and what is wrong where none stands.
 
 /// What a token is: `(`, `)`, `=`, `^^`, `@` and a language, `<` an IRI `>`, a name, or a string in quotes.
 #[derive(Clone, Copy, Debug, PartialEq, Eq)]

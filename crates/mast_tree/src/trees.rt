@@ -1,11 +1,8 @@
-// Trees while they grow: the items so far, inside the nodes that are open.
-ghost use Rattle.std.specs.Prelude.{◌≡◌, ◌<◌, ◌+◌, ◌++◌, ◌∷◌, [], List, length, true, OnOk, IfOk};
-ghost use Rattle.mast_tree.specs.Growth.{Grown, GrownAt, GrowsTo, Closes};
-ghost use Rattle.mast_tree.specs.Machine as machine;
-ghost use Rattle.mast_tree.specs.Trees.{Stand};
-ghost use Rattle.mast_tree.specs.declared.token.TokenKind.{TokenKind as Kind};
+//! Trees while they grow: the items so far, inside the nodes that are open.
+ghost use Rattle.std.specs.Prelude.{◌≡◌, ◌<◌, ◌++◌, ◌∷◌, [], length, OnOk, IfOk};
+ghost use Rattle.mast_tree.specs.inside.Growth.{opened, Closes, EndsWith, ReadsOn, StartsOn};
 
-use crate::place::Place;
+use crate::parser::ParseState;
 use crate::{Item, Token, TokenKind};
 use mast_terms::{List, NoMemory};
 use sqlite_items::{Boxed, Items};
@@ -27,17 +24,17 @@ pub struct Trees {
     first: u32,
 }
 
-/// Up to so many items of a node are moved into a new buffer of their size, so that the one in which they grew serves the next
-/// node. A copy of more would take as much again: they get room for all of them where the node ends near, and what is too much
-/// is given back where it stands.
+// Up to so many items of a node are moved into a new buffer of their size, so that the one in which they grew serves the next
+// node. A copy of more would take as much again: they get room for all of them where the node ends near, and what is too much
+// is given back where it stands.
 const FEW: usize = 4096;
 
-/// How many tokens are looked at to see where a node ends, for each item that it has so far. So all looking is linear, and a
-/// node of which no end is seen is small beside its document.
+// How many tokens are looked at to see where a node ends, for each item that it has so far. So all looking is linear, and a
+// node of which no end is seen is small beside its document.
 const NEAR: usize = 16;
 
-/// How many items at most stand before the parenthesis that closes or the end, with one that may be begun. None where neither is
-/// among the first `near` tokens.
+// How many items at most stand before the parenthesis that closes or the end, with one that may be begun. None where neither is
+// among the first `near` tokens.
 fn items_ahead(tokens: &[Token], near: usize) -> Option<usize> {
     let mut left = near;
     let mut depth: usize = 0;
@@ -66,7 +63,7 @@ fn items_ahead(tokens: &[Token], near: usize) -> Option<usize> {
     Some(count)
 }
 
-/// The items, in a buffer of their size.
+// The items, in a buffer of their size.
 fn trimmed(alloc: Global, items: List<Item>) -> Result<Items<Item>, NoMemory>
     ensures { IfOk result (λ same. same ≡ items) }
 {
@@ -81,6 +78,7 @@ fn trimmed(alloc: Global, items: List<Item>) -> Result<Items<Item>, NoMemory>
 }
 
 impl Trees {
+    /// No items.
     pub fn new(alloc: Global) -> Trees
         ensures frames { result.frames ≡ [] }
         ensures items { result.items ≡ [] }
@@ -92,6 +90,7 @@ impl Trees {
         }
     }
 
+    // Puts an item at the end of the innermost node.
     fn push(&mut self, alloc: Global, item: Item) -> Result<(), NoMemory>
         ensures items { OnOk result (self.new.items ≡ self.old.items ++ item ∷ []) }
         ensures frames { self.new.frames ≡ self.old.frames }
@@ -120,10 +119,10 @@ impl Trees {
         self.items = List::from_vec(items);
     }
 
-    /// Opens a node, whose name was begun.
+    // Opens a node, whose name was begun.
     fn open(&mut self, alloc: Global) -> Result<(), NoMemory>
         ensures items { OnOk result (self.new.items ≡ []) }
-        ensures frames { OnOk result (self.new.frames ≡ self.old.frames ++ record { items = self.old.items; token = self.old.first } ∷ []) }
+        ensures frames { OnOk result (self.new.frames ≡ opened self.old) }
     {
         let items = mem::replace(&mut self.items, List::new(alloc));
         self.frames.push(Frame {
@@ -133,7 +132,7 @@ impl Trees {
         Ok(())
     }
 
-    /// Closes the innermost node.
+    // Closes the innermost node.
     fn close(&mut self, alloc: Global) -> Result<(), NoMemory>
         ensures { OnOk result (0 < length self.old.frames → Closes self.old self.new) }
     {
@@ -147,9 +146,9 @@ impl Trees {
         }
     }
 
-    /// Reads the first token of an item, or a parenthesis that closes.
+    // Reads the first token of an item, or a parenthesis that closes.
     fn start(&mut self, alloc: Global, kind: TokenKind, at: u32) -> Result<(), NoMemory>
-        ensures { OnOk result ((ks : List Kind) → length ks ≡ at → Grown 0 self.old.frames self.old.items ks → GrowsTo (machine.item_step (length self.old.frames) kind) self.new (ks ++ kind ∷ [])) }
+        ensures { OnOk result (StartsOn self.old self.new kind at) }
     {
         match kind {
             TokenKind::Iri => self.push(alloc, Item::Iri { token: at }),
@@ -161,8 +160,9 @@ impl Trees {
         }
     }
 
+    // Reads a token behind a name.
     fn after_name(&mut self, alloc: Global, kind: TokenKind, at: u32) -> Result<(), NoMemory>
-        ensures { OnOk result ((ks : List Kind) → length ks ≡ at → GrownAt Place.AfterName self.old ks → GrowsTo (machine.step Place.AfterName (length self.old.frames) kind) self.new (ks ++ kind ∷ [])) }
+        ensures { OnOk result (ReadsOn ParseState.AfterName self.old self.new kind at) }
     {
         match kind {
             TokenKind::Equals => Ok(()),
@@ -174,8 +174,9 @@ impl Trees {
         }
     }
 
+    // Reads a token behind a string.
     fn after_str(&mut self, alloc: Global, kind: TokenKind, at: u32) -> Result<(), NoMemory>
-        ensures { OnOk result ((ks : List Kind) → length ks ≡ at → GrownAt Place.AfterStr self.old ks → GrowsTo (machine.step Place.AfterStr (length self.old.frames) kind) self.new (ks ++ kind ∷ [])) }
+        ensures { OnOk result (ReadsOn ParseState.AfterStr self.old self.new kind at) }
     {
         match kind {
             TokenKind::Carets => Ok(()),
@@ -199,28 +200,28 @@ impl Trees {
         }
     }
 
-    /// Reads a token, which the machine allows at the place.
+    /// Reads a token, which the parser allows in the state.
     pub fn read(
         &mut self,
         alloc: Global,
-        place: Place,
+        state: ParseState,
         kind: TokenKind,
         at: u32,
     ) -> Result<(), NoMemory>
-        ensures { OnOk result ((ks : List Kind) → length ks ≡ at → GrownAt place self.old ks → GrowsTo (machine.step place (length self.old.frames) kind) self.new (ks ++ kind ∷ [])) }
+        ensures { OnOk result (ReadsOn state self.old self.new kind at) }
     {
-        match place {
-            Place::Item => self.start(alloc, kind, at),
-            Place::AfterName => self.after_name(alloc, kind, at),
-            Place::AfterStr => self.after_str(alloc, kind, at),
-            Place::AfterCarets => self.push(
+        match state {
+            ParseState::Item => self.start(alloc, kind, at),
+            ParseState::AfterName => self.after_name(alloc, kind, at),
+            ParseState::AfterStr => self.after_str(alloc, kind, at),
+            ParseState::AfterCarets => self.push(
                 alloc,
                 Item::Str {
                     token: self.first,
                     tag: Some(at),
                 },
             ),
-            Place::AfterEquals => self.push(
+            ParseState::AfterEquals => self.push(
                 alloc,
                 Item::Bind {
                     token: self.first,
@@ -230,21 +231,21 @@ impl Trees {
         }
     }
 
-    /// The items, at a place where a document may end.
-    pub fn finish(self, alloc: Global, place: Place) -> Result<Items<Item>, NoMemory>
-        ensures { IfOk result (λ items. (ks : List Kind) → GrownAt place self ks → machine.ends (machine.at place (length self.frames)) ≡ true → Stand ks items) }
+    /// The items, in a state where a document may end.
+    pub fn finish(self, alloc: Global, state: ParseState) -> Result<Items<Item>, NoMemory>
+        ensures { IfOk result (λ items. EndsWith state self items) }
     {
         let Trees {
             frames: _,
             mut items,
             first,
         } = self;
-        match place {
-            Place::AfterName => {
+        match state {
+            ParseState::AfterName => {
                 items.push(alloc, Item::Leaf { token: first })?;
                 Ok(Items::from_vec(items.into_vec()))
             }
-            Place::AfterStr => {
+            ParseState::AfterStr => {
                 items.push(
                     alloc,
                     Item::Str {

@@ -7,7 +7,7 @@ use Rattle.mast_tree.proofs.prefix.put.Goals as goal
 
 pub returns : goal.returns
 returns c =
-    let old = c.args.namespaces.now.entries in
+    let old = c.args.map.now.entries in
     let key = c.in_ok-prefix.prefix in
     let name = c.in_ok-prefix.ensures.ok in
     let iri = c.in_ok-namespace.ensures.equal in

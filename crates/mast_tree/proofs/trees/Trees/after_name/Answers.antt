@@ -1,8 +1,8 @@
 use Rattle.std.proofs.Common.{◌++◌, ◌∷◌, [], length, sym, subst, ap}
 use Rattle.std.proofs.lemmas.Result.{on_ok_weaker}
-use Rattle.mast_tree.specs.Growth.{GrowsTo}
-use Rattle.mast_tree.specs.Machine as machine
-use Rattle.mast_tree.specs.declared.place.Place.TheVariants.{AfterName}
+use Rattle.mast_tree.specs.inside.Growth.{GrowsTo}
+use Rattle.mast_tree.specs.inside.Parser as parser
+use Rattle.mast_tree.specs.declared.parser.ParseState.TheVariants.{AfterName}
 use Rattle.mast_tree.proofs.GrowthLemmas.{on_ok_both, open_read, name_alone, name_goes}
 use Rattle.mast_tree.proofs.trees.Trees.after_name.Goals as goal
 
@@ -10,7 +10,7 @@ pub returns-in-Open : goal.returns-in-Open
 returns-in-Open c =
     let old = c.args.self.now in
     let new = c.open.new.self in
-    on_ok_both c.open.result (λ i f ks l g. subst (λ k. GrowsTo (machine.step AfterName (length old.frames) k) new (ks ++ k ∷ [])) (sym c.in-Open.is) (open_read old new ks g i f)) c.open.ensures.items c.open.ensures.frames
+    on_ok_both c.open.result (λ i f ks l g. subst (λ k. GrowsTo (parser.step AfterName (length old.frames) k) new (ks ++ k ∷ [])) (sym c.in-Open.is) (open_read old new ks g i f)) c.open.ensures.items c.open.ensures.frames
 
 pub returns-in_ok-push-in_default : goal.returns-in_ok-push-in_default
 returns-in_ok-push-in_default c =

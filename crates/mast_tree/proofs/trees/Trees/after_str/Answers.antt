@@ -1,8 +1,8 @@
 use Rattle.std.proofs.Common.{◌++◌, ◌∷◌, [], length, sym, subst, ap}
 use Rattle.std.proofs.lemmas.Result.{on_ok_weaker}
-use Rattle.mast_tree.specs.Growth.{GrowsTo}
-use Rattle.mast_tree.specs.Machine as machine
-use Rattle.mast_tree.specs.declared.place.Place.TheVariants.{AfterStr}
+use Rattle.mast_tree.specs.inside.Growth.{GrowsTo}
+use Rattle.mast_tree.specs.inside.Parser as parser
+use Rattle.mast_tree.specs.declared.parser.ParseState.TheVariants.{AfterStr}
 use Rattle.mast_tree.proofs.GrowthLemmas.{lang_read, str_alone, str_goes}
 use Rattle.mast_tree.proofs.trees.Trees.after_str.Goals as goal
 
@@ -10,7 +10,7 @@ pub returns-in-Lang : goal.returns-in-Lang
 returns-in-Lang c =
     let old = c.args.self.now in
     let new = c.push.new.self in
-    on_ok_weaker c.push.result (λ i ks l g. subst (λ k. GrowsTo (machine.step AfterStr (length old.frames) k) new (ks ++ k ∷ [])) (sym c.in-Lang.is) (lang_read old new ks c.args.at l g i c.push.ensures.frames)) c.push.ensures.items
+    on_ok_weaker c.push.result (λ i ks l g. subst (λ k. GrowsTo (parser.step AfterStr (length old.frames) k) new (ks ++ k ∷ [])) (sym c.in-Lang.is) (lang_read old new ks c.args.at l g i c.push.ensures.frames)) c.push.ensures.items
 
 pub returns-in_ok-push-in_default : goal.returns-in_ok-push-in_default
 returns-in_ok-push-in_default c =
