@@ -2,7 +2,8 @@
 use Rattle.std.proofs.Common.{◌≡◌, ℕ, zero, suc, List, [], ◌∷◌, drop, true, subst, refl}
 use Rattle.std.specs.Prelude.{Some, slice_get, nat_eq}
 use Rattle.std.specs.Cmp.Lexicographic.{pointwise}
-use Rattle.mast_files.specs.Stored.{content_of, entry_content}
+use Rattle.mast_files.specs.Stored.{content_of}
+use Rattle.mast_files.specs.inside.Places.{entry_content}
 
 -- the file at a place that has the name is the first one from there
 pub content_of-drop : (files : List (List ℕ × List ℕ)) (place : ℕ) (entry : List ℕ × List ℕ) (name : List ℕ) → slice_get files place ≡ Some entry → pointwise nat_eq entry.0 name ≡ true → content_of (drop place files) name ≡ entry_content (slice_get files place)

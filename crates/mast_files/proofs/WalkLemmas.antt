@@ -1,4 +1,4 @@
--- The step that the two walks of src/log.rt share: a struct with no field is made of nothing.
+-- The step that the walks of the ghost structs, `Log` and `Count`, share: a struct with no field is made of nothing.
 use Rattle.std.proofs.Common.{List, [], ◌∷◌, refl}
 use seplogic.Ra.Ura.{Ura}
 use mir.Val.{Val, vstruct, vnil}
@@ -8,12 +8,15 @@ use denote.RattleType.{RattleType, Valss}
 use denote.Steps.{nothing}
 use denote.Struct.Struct.{Struct, within}
 
+-- the value of a struct with no field
 abbrev pub none : Val
 none = vstruct vnil
 
+-- the type of a struct with no field
 abbrev pub fieldless : RattleType
 fieldless = Struct (record { name = []; args = []; types = []; fields = [] })
 
+-- such a value is made of nothing
 pub none_made : {M : Type 1} {𝓤 : Ura M} {𝓛 : Logic 𝓤} {K : Type 0} {Γ : List (Item 𝓤)} {G : Goal 𝓤 𝓛.H} → K → Step K 𝓛 (‵ (fieldless.own_val tt (none ∷ [])) ∷ Γ) G Γ G
 none_made t = step (λ s.
     nothing t $ feq_i t (List Val) (none ∷ []) (none ∷ []) refl $ fjoin t $

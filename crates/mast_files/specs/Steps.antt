@@ -3,8 +3,8 @@ use Rattle.std.specs.Prelude.{◌≡◌, ℕ, ◌+◌, ◌-◌, ◌<◌, min, Bo
 use Rattle.mast_terms.specs.declared.memory.Stop.{Stop}
 use Rattle.mast_terms.specs.declared.memory.Stop.TheVariants as stop
 use Rattle.mast_files.specs.declared.outside.Failed.{Failed}
-use Rattle.mast_files.specs.declared.machine.Answer.{Answer}
-use Rattle.mast_files.specs.declared.machine.Answer.TheVariants as answer
+use Rattle.mast_files.specs.declared.os.Answer.{Answer}
+use Rattle.mast_files.specs.declared.os.Answer.TheVariants as answer
 use Rattle.mast_files.specs.Calls.{IsTry, Fails, FailsAt, took_some}
 use Rattle.mast_files.specs.States.{next_count, is_failing, MemFilesState, SoundFilesState, MemSinkState, SoundSinkState, DirFilesState, StdSinkState}
 use Rattle.mast_files.specs.Stored.{content_of, holds}
@@ -18,10 +18,23 @@ may_start old name = not (is_failing old.failing old.calls) && holds old.files n
 abbrev pub StartsInMemory : {T : Type 0} → MemFilesState → List ℕ → Result T (Stop Failed) → MemFilesState → Type 0
 StartsInMemory old name (Ok x) new =
     (may_start old name ≡ true)
-    × (new ≡ record old { calls = next_count old.calls; current = Some name; rest = content_of old.files name; failed = false })
+    × (new ≡ record old {
+      calls = next_count old.calls;
+      starts = old.starts + 1;
+      current = Some name;
+      rest = content_of old.files name;
+      failed = false;
+    })
 StartsInMemory old name (Err (stop.Named e)) new =
     (may_start old name ≡ false)
-    × (new ≡ record old { calls = next_count old.calls; faults = next_count old.faults; current = Some name; rest = new.rest; failed = true })
+    × (new ≡ record old {
+      calls = next_count old.calls;
+      faults = next_count old.faults;
+      starts = old.starts + 1;
+      current = Some name;
+      rest = new.rest;
+      failed = true;
+    })
 StartsInMemory old name (Err stop.NoMemory) new = new ≡ old
 
 -- A read fails exactly where its number is one that fails, and else gives as much as there is, up to `most`.
@@ -30,7 +43,7 @@ ReadsInMemory old before (Ok n) new after =
     (is_failing old.failing old.calls ≡ false)
     × (n ≡ min old.most (min (length before) (length old.rest)))
     × (after ≡ take n old.rest ++ drop n before)
-    × (new ≡ record old { calls = next_count old.calls; rest = drop n old.rest })
+    × (new ≡ record old { calls = next_count old.calls; taken = old.taken + n; rest = drop n old.rest })
 ReadsInMemory old before (Err e) new after =
     (is_failing old.failing old.calls ≡ true)
     × (after ≡ before)
@@ -38,7 +51,7 @@ ReadsInMemory old before (Err e) new after =
 
 -- A start never fails.
 abbrev pub StartsSoundly : {T : Type 0} → SoundFilesState → List ℕ → Result T (Stop Failed) → SoundFilesState → Type 0
-StartsSoundly old name (Ok x) new = new ≡ record old { current = Some name; rest = content_of old.files name }
+StartsSoundly old name (Ok x) new = new ≡ record old { starts = old.starts + 1; current = Some name; rest = content_of old.files name }
 StartsSoundly old name (Err (stop.Named e)) new = ⊥
 StartsSoundly old name (Err stop.NoMemory) new = new ≡ old
 
@@ -47,7 +60,7 @@ abbrev pub ReadsSoundly : SoundFilesState → List ℕ → Result ℕ Failed →
 ReadsSoundly old before (Ok n) new after =
     (n ≡ min (length before) (length old.rest))
     × (after ≡ take n old.rest ++ drop n before)
-    × (new ≡ record old { rest = drop n old.rest })
+    × (new ≡ record old { taken = old.taken + n; rest = drop n old.rest })
 ReadsSoundly old before (Err e) new after = ⊥
 
 -- whether a `MemSink` takes the next piece: the call's number is none that fails, and there is room
@@ -74,19 +87,34 @@ abbrev pub PutsSoundly : SoundSinkState → List ℕ → Result ℕ Failed → S
 PutsSoundly old piece (Ok n) new = (n ≡ length piece) × (new ≡ record old { written = told_within old.room old.written piece })
 PutsSoundly old piece (Err e) new = ⊥
 
--- A start makes one try to open the file, and answers `Ok` exactly where the machine opened it.
--- Else no file is open and one fault is counted. Want of memory changes nothing, and then the machine was not called.
+-- A start makes one try to open the file, and answers `Ok` exactly where the system opened it.
+-- Else no file is open and one fault is counted. Want of memory changes nothing, and then the system was not called.
 abbrev pub StartsInFolder : {T : Type 0} → DirFilesState → List ℕ → Result T (Stop Failed) → DirFilesState → Type 0
 StartsInFolder old name (Ok x) new =
     IsTry old.opens name (name, answer.Opened) new.opens
-    × (new ≡ record old { file = Some new.opens; rest = new.rest; current = Some name; failed = false; opens = new.opens })
+    × (new ≡ record old {
+      file = Some new.opens;
+      rest = new.rest;
+      current = Some name;
+      failed = false;
+      starts = old.starts + 1;
+      opens = new.opens;
+    })
 StartsInFolder old name (Err (stop.Named e)) new =
     Fails old.opens name new.opens
-    × (new ≡ record old { file = None; rest = None; current = Some name; failed = true; faults = next_count old.faults; opens = new.opens })
+    × (new ≡ record old {
+      file = None;
+      rest = None;
+      current = Some name;
+      failed = true;
+      faults = next_count old.faults;
+      starts = old.starts + 1;
+      opens = new.opens;
+    })
 StartsInFolder old name (Err stop.NoMemory) new = new ≡ old
 
--- A read makes one try at the open file, and gives just the bytes that the machine gave.
--- It fails, and counts one fault, exactly where the machine failed or no file is open. Then the machine was not called.
+-- A read makes one try at the open file, and gives just the bytes that the system gave.
+-- It fails, and counts one fault, exactly where the system failed or no file is open. In the second case the system is not called.
 abbrev pub ReadsInFolder : DirFilesState → Result ℕ Failed → DirFilesState → List ℕ → Type 0
 ReadsInFolder old (Ok n) new after =
     IsSome old.file
@@ -96,8 +124,8 @@ ReadsInFolder old (Err e) new after =
     FailsAt old.file old.reads new.reads
     × (new ≡ record old { rest = new.rest; failed = true; faults = next_count old.faults; reads = new.reads })
 
--- A put makes one try to write the piece, and answers how many bytes the machine took.
--- It fails, and counts one fault, exactly where the machine took none or failed.
+-- A put makes one try to write the piece, and answers how many bytes the system took.
+-- It fails, and counts one fault, exactly where the system took none or failed.
 abbrev pub PutsOut : StdSinkState → List ℕ → Result ℕ Failed → StdSinkState → Type 0
 PutsOut old piece (Ok n) new =
     (0 < n)

@@ -1,6 +1,7 @@
-// The calls on an object in memory: their number, the faults among them, and which of them fail.
-ghost use Rattle.std.specs.Prelude.{◌≡◌, if◌then◌else◌};
+//! The calls on an object in memory: their number, the faults among them, and which of them fail.
+ghost use Rattle.std.specs.Prelude.{◌≡◌};
 ghost use Rattle.mast_files.specs.States.{next_count, is_failing};
+ghost use Rattle.mast_files.specs.inside.Counts.{after_call};
 
 /// The calls that were made, and the numbers of those that fail.
 #[derive(Debug, Drop)]
@@ -25,7 +26,7 @@ impl Calls {
     /// Whether the next call fails by its number. It counts the call, and the fault.
     pub(crate) fn next_fails(&mut self) -> bool
         ensures number { result ≡ is_failing self.old.failing.items self.old.count }
-        ensures counted { self.new ≡ record self.old { count = next_count self.old.count; faults = if result then next_count self.old.faults else self.old.faults } }
+        ensures counted { self.new ≡ after_call self.old result }
     {
         let fails = self.failing.contains(&self.count);
         self.count = self.count.saturating_add(1);

@@ -1,11 +1,12 @@
-// Files in memory, of which calls can be made to fail.
-ghost use Rattle.std.specs.Prelude.{◌≡◌, ◌<◌, [], Some, None, false};
+//! Files in memory, of which calls can be made to fail.
+ghost use Rattle.std.specs.Prelude.{◌≡◌, ◌<◌, Some};
 ghost use Rattle.std.specs.Io.KnownBytes.{ReadConsumes};
 ghost use Rattle.mast_files.specs.Causes.{Counts, CountsStop};
-ghost use Rattle.mast_files.specs.Stored.{content_of};
+ghost use Rattle.mast_files.specs.States.{MemFilesState, mem_files, mem_contents, mem_reading};
 ghost use Rattle.mast_files.specs.Steps.{StartsInMemory, ReadsInMemory};
 
 use crate::calls::Calls;
+use crate::count::Count;
 use crate::store::Store;
 use crate::{Failed, Files};
 use mast_terms::{List, Stop, Text};
@@ -17,6 +18,8 @@ use std::marker::Model;
 pub struct MemFiles {
     store: Store,
     calls: Calls,
+    starts: Count,
+    taken: Count,
     most: usize,
     current: Option<Text>,
     failed: bool,
@@ -34,6 +37,8 @@ impl Model for MemFiles {
       most = m.most;
       calls = m.calls.count;
       faults = m.calls.faults;
+      starts = m.starts.number;
+      taken = m.taken.number;
       current = m.current;
       rest = m.store.rest;
       failed = m.failed;
@@ -48,21 +53,20 @@ impl MemFiles {
     /// Where a name stands twice in `files`, the first entry is its content.
     pub fn new(files: Vec<(Text, List<u8>)>, failing: Vec<u64>, most: usize) -> MemFiles
         requires some { 0 < most }
-        ensures made { result ≡ record {
-          files = files.items;
-          failing = failing.items;
-          most = most;
-          calls = 0;
-          faults = 0;
-          current = None;
-          rest = [];
-          failed = false;
-        } }
-        ensures contents { ⟦<MemFiles as Files>⟧.contents result ≡ Some (content_of files.items) }
+        ensures made { result ≡ mem_files files.items failing.items most }
+
+        // What each state tells is just in its fields.
+        ensures contents { (state : MemFilesState) → ⟦<MemFiles as Files>⟧.contents state ≡ mem_contents state }
+        ensures reading { (state : MemFilesState) → ⟦<MemFiles as Files>⟧.reading state ≡ mem_reading state }
+        ensures faults { (state : MemFilesState) → ⟦<MemFiles as Files>⟧.faults state ≡ state.faults }
+        ensures starts { (state : MemFilesState) → ⟦<MemFiles as Files>⟧.starts state ≡ state.starts }
+        ensures taken { (state : MemFilesState) → ⟦<MemFiles as Files>⟧.taken state ≡ state.taken }
     {
         MemFiles {
             store: Store::new(files),
             calls: Calls::new(failing),
+            starts: Count::new(),
+            taken: Count::new(),
             most,
             current: None,
             failed: false,
@@ -78,17 +82,22 @@ impl MemFiles {
 }
 
 impl Files for MemFiles {
-    ghost contents = { λ m. Some (content_of m.files) };
+    ghost contents = { mem_contents };
 
-    ghost reading = { λ m. record { rest = Some m.rest; current = m.current; failed = m.failed } };
+    ghost reading = { mem_reading };
 
     ghost faults = { λ m. m.faults };
+
+    ghost starts = { λ m. m.starts };
+
+    ghost taken = { λ m. m.taken };
 
     fn start(&mut self, alloc: Global, name: &str) -> Result<(), Stop<Failed>>
         ensures exact { StartsInMemory self.old name.now result self.new }
         ensures cause { CountsStop self.old.faults self.new.faults result }
     {
         let text = Text::from_str(alloc, name)?;
+        self.starts.grow(1);
         let fails = self.calls.next_fails();
         let holds = !fails && self.store.open(&text);
         if !fails && !holds {
@@ -112,6 +121,8 @@ impl Files for MemFiles {
             self.failed = true;
             return Err(Failed);
         }
-        Ok(self.store.serve(buf, self.most))
+        let count = self.store.serve(buf, self.most);
+        self.taken.grow(count);
+        Ok(count)
     }
 }

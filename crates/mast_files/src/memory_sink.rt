@@ -1,6 +1,7 @@
-// A sink in memory, of which calls can be made to fail.
-ghost use Rattle.std.specs.Prelude.{◌≡◌, ◌<◌, ◌≤◌, [], length, Some, IfOk};
+//! A sink in memory, of which calls can be made to fail.
+ghost use Rattle.std.specs.Prelude.{◌≡◌, ◌<◌, ◌≤◌, length, Some, IfOk};
 ghost use Rattle.mast_files.specs.Causes.{Counts};
+ghost use Rattle.mast_files.specs.States.{MemSinkState, mem_sink};
 ghost use Rattle.mast_files.specs.Steps.{PutsInMemory};
 
 use crate::calls::Calls;
@@ -46,14 +47,11 @@ impl MemSink {
         room: usize,
     ) -> Result<MemSink, NoMemory>
         requires some { 0 < most }
-        ensures { IfOk result (λ sink. sink ≡ record {
-          written = [];
-          room = room;
-          failing = failing.items;
-          most = most;
-          calls = 0;
-          faults = 0;
-        }) }
+        ensures made { IfOk result (λ sink. sink ≡ mem_sink failing.items most room) }
+
+        // What each state tells is just in its fields.
+        ensures written { (state : MemSinkState) → ⟦<MemSink as Sink>⟧.written state ≡ Some state.written }
+        ensures faults { (state : MemSinkState) → ⟦<MemSink as Sink>⟧.faults state ≡ state.faults }
     {
         Ok(MemSink {
             bytes: Vec::with_capacity(alloc, room)?,

@@ -1,4 +1,4 @@
-// A sink in memory that never fails.
+//! A sink in memory that never fails.
 ghost use Rattle.std.specs.Prelude.{◌≡◌, [], Some, IfOk};
 ghost use Rattle.std.specs.Option.{option_map};
 ghost use Rattle.mast_files.specs.States.{SoundSinkState};
@@ -33,6 +33,9 @@ impl SoundSink {
     /// Reserves `room` bytes.
     pub fn new(alloc: Global, room: usize) -> Result<SoundSink, NoMemory>
         ensures made { IfOk result (λ sink. sink ≡ record { written = Some []; room = room }) }
+
+        // What each state tells is just in its fields.
+        ensures written { (state : SoundSinkState) → ⟦<SoundSink as Sink>⟧.written state ≡ state.written }
         ensures never_fails { (state : SoundSinkState) → ⟦<SoundSink as Sink>⟧.faults state ≡ 0 }
     {
         Ok(SoundSink {

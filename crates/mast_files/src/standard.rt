@@ -1,24 +1,26 @@
-// Standard output.
-ghost use Rattle.std.specs.Prelude.{None, ◌≡◌, ◌≤◌, ◌<◌, [], length, take, IfOk, MatchResult};
+//! Standard output.
+ghost use Rattle.std.specs.Prelude.{◌≡◌, ◌≤◌, ◌<◌, [], length, Some, IfOk};
 ghost use Rattle.mast_files.specs.Causes.{Counts};
-ghost use Rattle.mast_files.specs.Outside.{Gains};
+ghost use Rattle.mast_files.specs.Outside.{Puts};
+ghost use Rattle.mast_files.specs.States.{StdSinkState, std_written};
 ghost use Rattle.mast_files.specs.Steps.{PutsOut};
 
-use crate::machine::Output;
+use crate::os::Output;
 use crate::{Failed, Sink};
+use std::io::{Printer, writer};
 use std::marker::Model;
 
-/// Standard output, unbuffered. It tells nothing of what was written.
-/// Contracts see each call of the machine with what it answered, and the count of faults.
-/// To take nothing is a fault, and so is each error of the machine.
+/// Standard output, unbuffered. What it tells as written is what the system answered that it took.
+/// Contracts see each call of the system with what it answered, and the count of faults.
+/// To take nothing is a fault, and so is each error of the system.
 #[derive(Drop)]
 pub struct StdSink<'a, P: Print> {
-    output: Output<'a, P>,
+    output: Output<Printer<'a, P>>,
     faults: u64,
 }
 
 impl<'a, P: Print> Model for StdSink<'a, P> {
-    ghost use Rattle.mast_files.specs.States.{StdSinkState};
+    ghost use Rattle.mast_files.specs.States.{StdSinkState, std_written};
 
     ghost Value = { StdSinkState };
 
@@ -29,25 +31,28 @@ impl<'a, P: Print> StdSink<'a, P> {
     /// Nothing was taken and there was no fault yet.
     pub fn new(rt: &'a P) -> StdSink<'a, P>
         ensures made { result ≡ record { writes = []; faults = 0 } }
-        ensures written { ⟦<StdSink<'a, P> as Sink>⟧.written result ≡ None }
-        ensures faults { ⟦<StdSink<'a, P> as Sink>⟧.faults result ≡ 0 }
+        ensures nothing { ⟦<StdSink<'a, P> as Sink>⟧.written result ≡ Some [] }
+
+        // What each state tells is what went through its calls, and its count of faults.
+        ensures written { (state : StdSinkState) → ⟦<StdSink<'a, P> as Sink>⟧.written state ≡ std_written state }
+        ensures faults { (state : StdSinkState) → ⟦<StdSink<'a, P> as Sink>⟧.faults state ≡ state.faults }
     {
         StdSink {
-            output: Output::new(rt),
+            output: Output::new(writer(rt)),
             faults: 0,
         }
     }
 }
 
 impl<P: Print> Sink for StdSink<'_, P> {
-    ghost written = { λ _. None };
+    ghost written = { std_written };
 
     ghost faults = { λ s. s.faults };
 
     fn put(&mut self, piece: &[u8]) -> Result<usize, Failed>
         requires some { 0 < length piece.now }
         ensures exact { PutsOut self.old piece.now result self.new }
-        ensures bytes { MatchResult result (λ n. Gains None None (take n piece.now)) (λ _. Gains None None []) }
+        ensures bytes { Puts (std_written self.old) piece.now result (std_written self.new) }
         ensures bound { IfOk result (λ n. (0 < n) × (n ≤ length piece.now)) }
         ensures cause { Counts self.old.faults self.new.faults result }
     {

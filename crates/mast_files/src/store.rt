@@ -1,6 +1,7 @@
-// Files in memory, of which one may be open.
+//! Files in memory, of which one may be open.
 ghost use Rattle.std.specs.Prelude.{◌≡◌, ◌++◌, [], length, take, drop, min, is_some};
-ghost use Rattle.mast_files.specs.Stored.{content_of, content_at, holds};
+ghost use Rattle.mast_files.specs.Stored.{content_of, holds};
+ghost use Rattle.mast_files.specs.inside.Places.{content_at};
 
 use mast_terms::{List, Text};
 use std::marker::Model;
@@ -15,7 +16,7 @@ pub(crate) struct Store {
 
 impl Model for Store {
     ghost use Rattle.std.specs.Prelude.{◌≤◌, length, drop};
-    ghost use Rattle.mast_files.specs.Stored.{StoreState, content_at};
+    ghost use Rattle.mast_files.specs.inside.Places.{StoreState, content_at};
 
     ghost Value = { StoreState };
 

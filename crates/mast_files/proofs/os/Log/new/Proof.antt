@@ -24,11 +24,11 @@ use denote.Triple.Spec.{Meets, triple_of}
 use denote.Triple.Table.{entered}
 use denote.Triple.Walked.{says, Stays, walk_of, ends_at, walk_Meets}
 use Rattle.mast_files.proofs.WalkLemmas.{none, none_made}
-use Rattle.mast_files.specs.contracts.machine.Log as Log
-use Rattle.mast_files.specs.contracts.machine.Log.new as F
-use Rattle.mast_files.specs.contracts.machine.Log.new.Key.{name as #self}
-use Rattle.mast_files.proofs.machine.Log.new.Statement as stated
-use Rattle.mast_files.proofs.machine.Log.new.Code as code
+use Rattle.mast_files.specs.contracts.os.Log as Log
+use Rattle.mast_files.specs.contracts.os.Log.new as F
+use Rattle.mast_files.specs.contracts.os.Log.new.Key.{name as #self}
+use Rattle.mast_files.proofs.os.Log.new.Statement as stated
+use Rattle.mast_files.proofs.os.Log.new.Code as code
 
 abbrev function : Fn
 function = code.function

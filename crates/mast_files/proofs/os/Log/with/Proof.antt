@@ -26,13 +26,13 @@ use denote.Triple.Spec.{Meets, triple_of}
 use denote.Triple.Table.{entered}
 use denote.Triple.Walked.{says, Stays, stay_dropped, walk_of, ends_at, walk_Meets, Goes-dropped}
 use Rattle.mast_files.proofs.WalkLemmas.{none, none_made}
-use Rattle.mast_files.specs.contracts.machine.Log as Log
-use Rattle.mast_files.specs.contracts.machine.Note as Note
-use Rattle.mast_files.specs.Calls.{call_of}
-use Rattle.mast_files.specs.contracts.machine.Log.with as F
-use Rattle.mast_files.specs.contracts.machine.Log.with.Key.{name as #self}
-use Rattle.mast_files.proofs.machine.Log.with.Statement as stated
-use Rattle.mast_files.proofs.machine.Log.with.Code as code
+use Rattle.mast_files.specs.contracts.os.Log as Log
+use Rattle.mast_files.specs.contracts.os.Note as Note
+use Rattle.mast_files.specs.inside.Notes.{call_of}
+use Rattle.mast_files.specs.contracts.os.Log.with as F
+use Rattle.mast_files.specs.contracts.os.Log.with.Key.{name as #self}
+use Rattle.mast_files.proofs.os.Log.with.Statement as stated
+use Rattle.mast_files.proofs.os.Log.with.Code as code
 
 abbrev function : Fn
 function = code.function

@@ -1,7 +1,7 @@
 -- Each call so far was interrupted.
 use Rattle.std.proofs.Common.{◌≡◌, ◌++◌}
 use Rattle.mast_files.specs.Calls.{interruptions}
-use Rattle.mast_files.proofs.machine.Folder.open_again.Given as goal
+use Rattle.mast_files.proofs.os.Folder.open_again.Given as goal
 
 abbrev pub invariant-loop : goal.invariant-loop
 invariant-loop g l = record {

@@ -1,5 +1,7 @@
-// What no clause says: that the calls succeed, and what the adapters do with the machine.
-use crate::{
+//! Tests of mast_files: that its calls succeed, and what the files of the working folder and standard output do with the operating system.
+#![tactic(auto)]
+
+use mast_files::{
     DirFiles, Failed, Files, Gone, MemFiles, MemSink, ReadRefusal, Sink, SoundFiles, SoundSink,
     StdSink, read_all, write_all_of,
 };
@@ -127,7 +129,7 @@ fn the_folder_is_read(rt: HostRuntime) -> Result<(), Fail> {
     Ok(())
 }
 
-// A machine that is interrupted so many times, and then does its work.
+// An operating system that is interrupted so many times, and then does its work.
 #[derive(Drop)]
 struct Busy {
     left: Cell<u32>,
