@@ -9,7 +9,7 @@ use Rattle.mast_terms.specs.Printed.{two_digits, date_text}
 use Rattle.mast_terms.specs.declared.date.Date.{Date}
 use Rattle.mast_terms.proofs.SameLemmas.{date_is}
 use Rattle.mast_sql.specs.Symbols.{IsDateOf}
-use Rattle.mast_sql.proofs.MachineLemmas.{is_byte}
+use Rattle.mast_source.proofs.ByteLemmas.{is_byte}
 
 le_decided : (a b : ℕ) → (a ≤ b) ⊎ (a ≤ b → ⊥)
 le_decided zero b = inl (omega arith)
@@ -113,12 +113,14 @@ one_date a b e = date_is a b
     (sym (month_of a) ∙ ap (λ x. month_in x) e ∙ month_of b)
     (sym (day_of a) ∙ ap (λ x. day_in x) e ∙ day_of b)
 
+-- each text is a date or none
 pub the_date : (text : List ℕ) → (date : Option Date) × IsDateOf text date
 the_date text = elim (date_decided text) [
   | inl t ↦ (Some t.0, t.1)
   | inr n ↦ (None, n)
 ]
 
+-- and it is one date alone
 pub only_date : (text : List ℕ) (a b : Option Date) → IsDateOf text a → IsDateOf text b → a ≡ b
 only_date text None None t u = refl
 only_date text None (Some d) t u = absurd (t (d, u))

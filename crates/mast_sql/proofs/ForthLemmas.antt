@@ -9,12 +9,12 @@ use Rattle.mast_sql.specs.declared.symbol.Symbol.TheVariants.{Select, Distinct, 
 use Rattle.mast_sql.specs.declared.query.Operand.{Operand as AnOperand}
 use Rattle.mast_sql.specs.declared.query.Operand.TheVariants as operand
 use Rattle.mast_sql.specs.declared.query.SourceQuery.{SourceQuery}
-use Rattle.mast_sql.specs.declared.place.Place.{Place}
-use Rattle.mast_sql.specs.declared.place.Place.TheVariants as place
-use Rattle.mast_sql.specs.declared.place.Side.{Side as ASide}
-use Rattle.mast_sql.specs.declared.place.Side.TheVariants.{Left, Right}
-use Rattle.mast_sql.specs.Places as places
-use Rattle.mast_sql.specs.Places.{with_item, with_entry, with_condition, at, step, finish, right_finish, whole}
+use Rattle.mast_sql.specs.declared.parser.ParseState.{ParseState}
+use Rattle.mast_sql.specs.declared.parser.ParseState.TheVariants as state
+use Rattle.mast_sql.specs.declared.parser.Side.{Side as ASide}
+use Rattle.mast_sql.specs.declared.parser.Side.TheVariants.{Left, Right}
+use Rattle.mast_sql.specs.inside.Parser as parser
+use Rattle.mast_sql.specs.inside.Parser.{with_item, with_entry, with_condition, at, step, finish, right_finish, whole}
 use Rattle.mast_sql.specs.Grammar.{Item, alone, named, Entry, bare, beside, aliased, Side, column, integer, quoted, dated, column_symbols, item_symbols, entry_symbols, side_symbols, item_of, entry_of, side_of}
 use Rattle.mast_sql.proofs.ReadsLemmas.{AfterCondition, AfterEntry, AfterItem, ItemThen, EntryThen, AfterOperand, OperandThen, SelectedThen, Reads, GoesTo, open_conditions, open_entries, open_items}
 
@@ -91,7 +91,7 @@ no_dot_operand (Right l op) x q r ks more e t = no_dot_condition (with_condition
 
 -- the ends
 
-pub item_end_forth : (q : SourceQuery) (k : Symbol) (ks : List Symbol) (r : SourceQuery) → AfterItem q (k ∷ ks) r → GoesTo (at q (places.item_end k)) ks r
+pub item_end_forth : (q : SourceQuery) (k : Symbol) (ks : List Symbol) (r : SourceQuery) → AfterItem q (k ∷ ks) r → GoesTo (at q (parser.item_end k)) ks r
 item_end_forth q Comma ks r (inl t) = open_items t.0 q ks r (let f = t.1 in cc) t.2
 item_end_forth q Comma ks r (inr t) = absurd (let f = t.1 in cc)
 item_end_forth q From ks r (inl t) = absurd (let f = t.1 in cc)
@@ -99,31 +99,31 @@ item_end_forth q From ks r (inr t) = open_entries t.0 q ks r (let f = t.1 in cc)
 item_end_forth q k ks r (inl t) = absurd (let f = t.1 in cc)
 item_end_forth q k ks r (inr t) = absurd (let f = t.1 in cc)
 
-pub entry_end_forth : (q : SourceQuery) (k : Symbol) (ks : List Symbol) (r : SourceQuery) → AfterEntry q (k ∷ ks) r → GoesTo (at q (places.entry_end k)) ks r
+pub entry_end_forth : (q : SourceQuery) (k : Symbol) (ks : List Symbol) (r : SourceQuery) → AfterEntry q (k ∷ ks) r → GoesTo (at q (parser.entry_end k)) ks r
 entry_end_forth q Comma ks r (inr (inr t)) = open_entries t.0 q ks r (let f = t.1 in cc) t.2
 entry_end_forth q Where ks r (inr (inl t)) = open_conditions t.0 q ks r (let f = t.1 in cc) t.2
 entry_end_forth q k ks r (inl t) = absurd (let f = t.0 in cc)
 entry_end_forth q k ks r (inr (inl t)) = absurd (let f = t.1 in cc)
 entry_end_forth q k ks r (inr (inr t)) = absurd (let f = t.1 in cc)
 
-pub comparison_end_forth : (q : SourceQuery) (k : Symbol) (ks : List Symbol) (r : SourceQuery) → AfterCondition q (k ∷ ks) r → GoesTo (at q (places.comparison_end k)) ks r
+pub comparison_end_forth : (q : SourceQuery) (k : Symbol) (ks : List Symbol) (r : SourceQuery) → AfterCondition q (k ∷ ks) r → GoesTo (at q (parser.comparison_end k)) ks r
 comparison_end_forth q And ks r (inr t) = open_conditions t.0 q ks r (let f = t.1 in cc) t.2
 comparison_end_forth q k ks r (inl t) = absurd (let f = t.0 in cc)
 comparison_end_forth q k ks r (inr t) = absurd (let f = t.1 in cc)
 
 -- items
 
-item_forth : (q : SourceQuery) (k : Symbol) (ks : List Symbol) (r : SourceQuery) → ItemThen q (k ∷ ks) r → GoesTo (at q (places.item k)) ks r
+item_forth : (q : SourceQuery) (k : Symbol) (ks : List Symbol) (r : SourceQuery) → ItemThen q (k ∷ ks) r → GoesTo (at q (parser.item k)) ks r
 item_forth q (Name a) ks r t = t
 item_forth q k ks r t = let n = (item_name t.0 k ks t.1 t.2).1 in absurd (cc)
 
-selected_forth : (q : SourceQuery) (k : Symbol) (ks : List Symbol) (r : SourceQuery) → SelectedThen q (k ∷ ks) r → GoesTo (at q (places.selected k)) ks r
+selected_forth : (q : SourceQuery) (k : Symbol) (ks : List Symbol) (r : SourceQuery) → SelectedThen q (k ∷ ks) r → GoesTo (at q (parser.selected k)) ks r
 selected_forth q Distinct ks r (inl t) = let n = (item_name t.0 Distinct ks t.1 t.2).1 in absurd (cc)
 selected_forth q Distinct ks r (inr t) = let s : t.0 ≡ ks = (let f = t.1 in cc) in subst (λ x. ItemThen q x r) s t.2
 selected_forth q k ks r (inl t) = item_forth q k ks r t
 selected_forth q k ks r (inr t) = let f = t.1 in absurd (cc)
 
-start_forth : (q : SourceQuery) (k : Symbol) (ks : List Symbol) (r : SourceQuery) → Reads place.Start q (k ∷ ks) r → GoesTo (at q (places.start k)) ks r
+start_forth : (q : SourceQuery) (k : Symbol) (ks : List Symbol) (r : SourceQuery) → Reads state.Start q (k ∷ ks) r → GoesTo (at q (parser.start k)) ks r
 start_forth q Select ks r t = let s : t.0 ≡ ks = (let f = t.1 in cc) in subst (λ x. SelectedThen q x r) s t.2
 start_forth q k ks r t = let f = t.1 in absurd (cc)
 
@@ -137,7 +137,7 @@ column_whole alias a q ks r no_dot no_as t = go (item_split alias a ks t.0 t.1 t
     go (inr (inr (inl s))) = absurd (no_dot s.0 s.1)
     go (inr (inr (inr s))) = absurd (no_dot_item (with_item q (item_of t.0)) r t.1 s.0 s.1 t.3)
 
-column_forth : (alias : Option (List ℕ)) (a : List ℕ) (q : SourceQuery) (k : Symbol) (ks : List Symbol) (r : SourceQuery) → ItemThen q (column_symbols alias a ++ (k ∷ ks)) r → GoesTo (places.column alias a q k) ks r
+column_forth : (alias : Option (List ℕ)) (a : List ℕ) (q : SourceQuery) (k : Symbol) (ks : List Symbol) (r : SourceQuery) → ItemThen q (column_symbols alias a ++ (k ∷ ks)) r → GoesTo (parser.column alias a q k) ks r
 column_forth None a q Dot ks r t = t
 column_forth (Some b) a q Dot ks r t = absurd (two_dots t.0 t.1 t.2 t.3)
   where
@@ -159,7 +159,7 @@ named_next alias a q ks r t = go (item_split alias a (As ∷ ks) t.0 t.1 t.2)
     go (inr (inr (inl s))) = absurd (let f = s.1 in cc)
     go (inr (inr (inr s))) = absurd (no_dot_item (with_item q (item_of t.0)) r t.1 s.0 s.1 t.3)
 
-named_forth : (alias : Option (List ℕ)) (a : List ℕ) (q : SourceQuery) (k : Symbol) (ks : List Symbol) (r : SourceQuery) → ItemThen q (column_symbols alias a ++ (As ∷ (k ∷ ks))) r → GoesTo (places.named alias a q k) ks r
+named_forth : (alias : Option (List ℕ)) (a : List ℕ) (q : SourceQuery) (k : Symbol) (ks : List Symbol) (r : SourceQuery) → ItemThen q (column_symbols alias a ++ (As ∷ (k ∷ ks))) r → GoesTo (parser.named alias a q k) ks r
 named_forth alias a q (Name o) ks r t =
     let n = named_next alias a q (Name o ∷ ks) r t in
     let f = n.2 in
@@ -175,13 +175,13 @@ dotted_next b q ks r (alone (Some d) c) rest e h = (c, rest, cc)
 dotted_next b q ks r (named None c o) rest e h = absurd (cc)
 dotted_next b q ks r (named (Some d) c o) rest e h = (c, As ∷ (Name o ∷ rest), cc)
 
-dotted_forth : (b : List ℕ) (q : SourceQuery) (k : Symbol) (ks : List Symbol) (r : SourceQuery) → ItemThen q (Name b ∷ (Dot ∷ (k ∷ ks))) r → GoesTo (at q (places.dotted b k)) ks r
+dotted_forth : (b : List ℕ) (q : SourceQuery) (k : Symbol) (ks : List Symbol) (r : SourceQuery) → ItemThen q (Name b ∷ (Dot ∷ (k ∷ ks))) r → GoesTo (at q (parser.dotted b k)) ks r
 dotted_forth b q (Name a) ks r t = t
 dotted_forth b q k ks r t = let f = (dotted_next b q (k ∷ ks) r t.0 t.1 t.2 t.3).2 in absurd (cc)
 
 -- entries
 
-entry_forth : (q : SourceQuery) (k : Symbol) (ks : List Symbol) (r : SourceQuery) → EntryThen q (k ∷ ks) r → GoesTo (at q (places.entry k)) ks r
+entry_forth : (q : SourceQuery) (k : Symbol) (ks : List Symbol) (r : SourceQuery) → EntryThen q (k ∷ ks) r → GoesTo (at q (parser.entry k)) ks r
 entry_forth q (Name t) ks r x = x
 entry_forth q k ks r x = let n = (entry_name x.0 k ks x.1 x.2).1 in absurd (cc)
 
@@ -203,17 +203,18 @@ table_named t a q ks r (bare u) rest e h = absurd (no_name_entry (with_entry q (
 table_named t a q ks r (beside u b) rest e h = let s : u ≡ t = cc in let p : b ≡ a = cc in after_entry_is (with_entry q (record { table = u; alias = b })) (with_entry q (record { table = t; alias = a })) rest ks r (same_entry q u t b a s p) (cc) h
 table_named t a q ks r (aliased u b) rest e h = absurd (cc)
 
-table_forth : (t : List ℕ) (q : SourceQuery) (k : Symbol) (ks : List Symbol) (r : SourceQuery) → EntryThen q (Name t ∷ (k ∷ ks)) r → GoesTo (places.table t q k) ks r
+table_forth : (t : List ℕ) (q : SourceQuery) (k : Symbol) (ks : List Symbol) (r : SourceQuery) → EntryThen q (Name t ∷ (k ∷ ks)) r → GoesTo (parser.table t q k) ks r
 table_forth t q As ks r x = x
 table_forth t q (Name a) ks r x = table_named t a q ks r x.0 x.1 x.2 x.3
 table_forth t q k ks r x = entry_end_forth (with_entry q (record { table = t; alias = t })) k ks r (table_whole t q (k ∷ ks) r (λ more e. cc) (λ a more e. cc) x.0 x.1 x.2 x.3)
 
+-- behind a table and `AS` comes an alias
 pub table_as_next : (t : List ℕ) (q : SourceQuery) (ks : List Symbol) (r : SourceQuery) (x : Entry) (rest : List Symbol) → Name t ∷ (As ∷ ks) ≡ entry_symbols x ++ rest → AfterEntry (with_entry q (entry_of x)) rest r → (a : List ℕ) × (ks ≡ Name a ∷ rest) × AfterEntry (with_entry q (record { table = t; alias = a })) rest r
 table_as_next t q ks r (bare u) rest e h = absurd (no_as_entry (with_entry q (record { table = u; alias = u })) r rest ks (cc) h)
 table_as_next t q ks r (beside u a) rest e h = absurd (cc)
 table_as_next t q ks r (aliased u a) rest e h = let s : u ≡ t = cc in (a, cc, after_entry_is (with_entry q (record { table = u; alias = a })) (with_entry q (record { table = t; alias = a })) rest rest r (same_entry q u t a a s refl) refl h)
 
-table_as_forth : (t : List ℕ) (q : SourceQuery) (k : Symbol) (ks : List Symbol) (r : SourceQuery) → EntryThen q (Name t ∷ (As ∷ (k ∷ ks))) r → GoesTo (places.table_as t q k) ks r
+table_as_forth : (t : List ℕ) (q : SourceQuery) (k : Symbol) (ks : List Symbol) (r : SourceQuery) → EntryThen q (Name t ∷ (As ∷ (k ∷ ks))) r → GoesTo (parser.table_as t q k) ks r
 table_as_forth t q (Name a) ks r x =
     let n = table_as_next t q (Name a ∷ ks) r x.0 x.1 x.2 x.3 in
     let f = n.1 in
@@ -252,7 +253,7 @@ no_operand side q k ks rest (integer m) e = inr (inl (m, cc))
 no_operand side q k ks rest (quoted t d) e = inr (inr (inl (t, d, cc)))
 no_operand side q k ks rest (dated t d) e = inr (inr (inr cc))
 
-operand_forth : (side : ASide) (q : SourceQuery) (k : Symbol) (ks : List Symbol) (r : SourceQuery) → OperandThen side q (k ∷ ks) r → GoesTo (places.operand side q k) ks r
+operand_forth : (side : ASide) (q : SourceQuery) (k : Symbol) (ks : List Symbol) (r : SourceQuery) → OperandThen side q (k ∷ ks) r → GoesTo (parser.operand side q k) ks r
 operand_forth side q (Name a) ks r t = t
 operand_forth side q (Integer n) ks r t = whole_reads side (operand.Constant (value.Int n)) q ks r (integer_next side q n ks r t.0 t.1 t.2 t.3)
 operand_forth side q (Quoted u d) ks r t = whole_reads side (operand.Constant (value.Text u)) q ks r (text_next side q u d ks r t.0 t.1 t.2 t.3)
@@ -268,6 +269,7 @@ operand_forth side q k ks r t = absurd (elim (no_operand side q k ks t.1 t.0 t.2
   ]
 ])
 
+-- behind `DATE` comes a text that is a date
 pub date_next : (side : ASide) (q : SourceQuery) (ks : List Symbol) (r : SourceQuery) (x : Side) (rest : List Symbol) → Date ∷ ks ≡ side_symbols x ++ rest → AfterOperand side (side_of x) q rest r → (t : List ℕ) × (d : ADate) × (ks ≡ Quoted t (Some d) ∷ rest) × AfterOperand side (operand.Constant (value.Date d)) q rest r
 date_next side q ks r (column None c) rest e h = absurd (cc)
 date_next side q ks r (column (Some b) c) rest e h = absurd (cc)
@@ -275,7 +277,7 @@ date_next side q ks r (integer m) rest e h = absurd (cc)
 date_next side q ks r (quoted u f) rest e h = absurd (cc)
 date_next side q ks r (dated u f) rest e h = (u, f, cc, h)
 
-operand_date_forth : (side : ASide) (q : SourceQuery) (k : Symbol) (ks : List Symbol) (r : SourceQuery) → OperandThen side q (Date ∷ (k ∷ ks)) r → GoesTo (places.operand_date side q k) ks r
+operand_date_forth : (side : ASide) (q : SourceQuery) (k : Symbol) (ks : List Symbol) (r : SourceQuery) → OperandThen side q (Date ∷ (k ∷ ks)) r → GoesTo (parser.operand_date side q k) ks r
 operand_date_forth side q (Quoted t None) ks r x = let f = (date_next side q (Quoted t None ∷ ks) r x.0 x.1 x.2 x.3).2 in absurd (cc)
 operand_date_forth side q (Quoted t (Some d)) ks r x =
     let n = date_next side q (Quoted t (Some d) ∷ ks) r x.0 x.1 x.2 x.3 in
@@ -285,7 +287,7 @@ operand_date_forth side q (Quoted t (Some d)) ks r x =
     whole_reads side (operand.Constant (value.Date d)) q ks r (after_operand_is side (operand.Constant (value.Date n.1)) (operand.Constant (value.Date d)) q x.1 ks r (ap (λ z. operand.Constant (value.Date z)) s) p n.3)
 operand_date_forth side q k ks r x = let f = (date_next side q (k ∷ ks) r x.0 x.1 x.2 x.3).2 in absurd (cc)
 
-left_end_forth : (x : AnOperand) (q : SourceQuery) (k : Symbol) (ks : List Symbol) (r : SourceQuery) → AfterOperand Left x q (k ∷ ks) r → GoesTo (at q (places.left_end x k)) ks r
+left_end_forth : (x : AnOperand) (q : SourceQuery) (k : Symbol) (ks : List Symbol) (r : SourceQuery) → AfterOperand Left x q (k ∷ ks) r → GoesTo (at q (parser.left_end x k)) ks r
 left_end_forth x q (Compare op) ks r t =
     let f = t.2 in
     let s : t.0 ≡ op = cc in
@@ -293,7 +295,7 @@ left_end_forth x q (Compare op) ks r t =
     subst (λ o. OperandThen (Right x o) q ks r) s (subst (λ z. OperandThen (Right x t.0) q z r) p t.3)
 left_end_forth x q k ks r t = let f = t.2 in absurd (cc)
 
-operand_end_forth : (side : ASide) (x : AnOperand) (q : SourceQuery) (k : Symbol) (ks : List Symbol) (r : SourceQuery) → AfterOperand side x q (k ∷ ks) r → GoesTo (places.operand_end side x q k) ks r
+operand_end_forth : (side : ASide) (x : AnOperand) (q : SourceQuery) (k : Symbol) (ks : List Symbol) (r : SourceQuery) → AfterOperand side x q (k ∷ ks) r → GoesTo (parser.operand_end side x q k) ks r
 operand_end_forth Left x q k ks r t = left_end_forth x q k ks r t
 operand_end_forth (Right l op) x q k ks r t = comparison_end_forth (with_condition q (record { left = l; op = op; right = x })) k ks r t
 
@@ -306,7 +308,7 @@ operand_whole side alias a q ks r no_dot t = go (side_split alias a ks t.0 t.1 t
     go (inr (inl s)) = absurd (no_dot s.0 s.1)
     go (inr (inr s)) = absurd (no_dot_operand side (side_of t.0) q r t.1 s.0 s.1 t.3)
 
-operand_column_forth : (side : ASide) (alias : Option (List ℕ)) (a : List ℕ) (q : SourceQuery) (k : Symbol) (ks : List Symbol) (r : SourceQuery) → OperandThen side q (column_symbols alias a ++ (k ∷ ks)) r → GoesTo (places.operand_column side alias a q k) ks r
+operand_column_forth : (side : ASide) (alias : Option (List ℕ)) (a : List ℕ) (q : SourceQuery) (k : Symbol) (ks : List Symbol) (r : SourceQuery) → OperandThen side q (column_symbols alias a ++ (k ∷ ks)) r → GoesTo (parser.operand_column side alias a q k) ks r
 operand_column_forth side None a q Dot ks r t = t
 operand_column_forth side (Some b) a q Dot ks r t = absurd (two_dots t.0 t.1 t.2 t.3)
   where
@@ -318,6 +320,7 @@ operand_column_forth side (Some b) a q Dot ks r t = absurd (two_dots t.0 t.1 t.2
     two_dots (dated u f) rest e h = cc
 operand_column_forth side alias a q k ks r t = operand_end_forth side (operand.Column alias a) q k ks r (operand_whole side alias a q (k ∷ ks) r (λ more e. cc) t)
 
+-- behind an alias and a dot comes a name
 pub operand_dotted_next : (side : ASide) (b : List ℕ) (q : SourceQuery) (ks : List Symbol) (r : SourceQuery) (x : Side) (rest : List Symbol) → Name b ∷ (Dot ∷ ks) ≡ side_symbols x ++ rest → AfterOperand side (side_of x) q rest r → (a : List ℕ) × (more : List Symbol) × (ks ≡ Name a ∷ more)
 operand_dotted_next side b q ks r (column None c) rest e h = absurd (no_dot_operand side (operand.Column None c) q r rest ks (cc) h)
 operand_dotted_next side b q ks r (column (Some d) c) rest e h = (c, rest, cc)
@@ -325,25 +328,26 @@ operand_dotted_next side b q ks r (integer m) rest e h = absurd (cc)
 operand_dotted_next side b q ks r (quoted u f) rest e h = absurd (cc)
 operand_dotted_next side b q ks r (dated u f) rest e h = absurd (cc)
 
-operand_dotted_forth : (side : ASide) (b : List ℕ) (q : SourceQuery) (k : Symbol) (ks : List Symbol) (r : SourceQuery) → OperandThen side q (Name b ∷ (Dot ∷ (k ∷ ks))) r → GoesTo (at q (places.operand_dotted side b k)) ks r
+operand_dotted_forth : (side : ASide) (b : List ℕ) (q : SourceQuery) (k : Symbol) (ks : List Symbol) (r : SourceQuery) → OperandThen side q (Name b ∷ (Dot ∷ (k ∷ ks))) r → GoesTo (at q (parser.operand_dotted side b k)) ks r
 operand_dotted_forth side b q (Name a) ks r t = t
 operand_dotted_forth side b q k ks r t = let f = (operand_dotted_next side b q (k ∷ ks) r t.0 t.1 t.2 t.3).2 in absurd (cc)
 
-pub forth : (p : Place) (q : SourceQuery) (k : Symbol) (ks : List Symbol) (r : SourceQuery) → Reads p q (k ∷ ks) r → GoesTo (step p q k) ks r
-forth place.Start q k ks r t = start_forth q k ks r t
-forth place.Selected q k ks r t = selected_forth q k ks r t
-forth place.Item q k ks r t = item_forth q k ks r t
-forth (place.Column alias a) q k ks r t = column_forth alias a q k ks r t
-forth (place.Dotted alias) q k ks r t = dotted_forth alias q k ks r t
-forth (place.Named alias a) q k ks r t = named_forth alias a q k ks r t
-forth place.ItemEnd q k ks r t = item_end_forth q k ks r t
-forth place.Entry q k ks r t = entry_forth q k ks r t
-forth (place.Table u) q k ks r t = table_forth u q k ks r t
-forth (place.TableAs u) q k ks r t = table_as_forth u q k ks r t
-forth place.EntryEnd q k ks r t = entry_end_forth q k ks r t
-forth (place.Operand side) q k ks r t = operand_forth side q k ks r t
-forth (place.OperandColumn side alias a) q k ks r t = operand_column_forth side alias a q k ks r t
-forth (place.OperandDotted side alias) q k ks r t = operand_dotted_forth side alias q k ks r t
-forth (place.OperandDate side) q k ks r t = operand_date_forth side q k ks r t
-forth (place.LeftEnd x) q k ks r t = left_end_forth x q k ks r t
-forth place.ComparisonEnd q k ks r t = comparison_end_forth q k ks r t
+-- what may come with a symbol may come behind its step
+pub forth : (p : ParseState) (q : SourceQuery) (k : Symbol) (ks : List Symbol) (r : SourceQuery) → Reads p q (k ∷ ks) r → GoesTo (step p q k) ks r
+forth state.Start q k ks r t = start_forth q k ks r t
+forth state.Selected q k ks r t = selected_forth q k ks r t
+forth state.Item q k ks r t = item_forth q k ks r t
+forth (state.Column alias a) q k ks r t = column_forth alias a q k ks r t
+forth (state.Dotted alias) q k ks r t = dotted_forth alias q k ks r t
+forth (state.Named alias a) q k ks r t = named_forth alias a q k ks r t
+forth state.ItemEnd q k ks r t = item_end_forth q k ks r t
+forth state.Entry q k ks r t = entry_forth q k ks r t
+forth (state.Table u) q k ks r t = table_forth u q k ks r t
+forth (state.TableAs u) q k ks r t = table_as_forth u q k ks r t
+forth state.EntryEnd q k ks r t = entry_end_forth q k ks r t
+forth (state.Operand side) q k ks r t = operand_forth side q k ks r t
+forth (state.OperandColumn side alias a) q k ks r t = operand_column_forth side alias a q k ks r t
+forth (state.OperandDotted side alias) q k ks r t = operand_dotted_forth side alias q k ks r t
+forth (state.OperandDate side) q k ks r t = operand_date_forth side q k ks r t
+forth (state.LeftEnd x) q k ks r t = left_end_forth x q k ks r t
+forth state.ComparisonEnd q k ks r t = comparison_end_forth q k ks r t

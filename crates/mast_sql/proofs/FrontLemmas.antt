@@ -4,33 +4,34 @@ use Rattle.std.specs.Prelude.{Option, Some, None}
 use Rattle.std.proofs.lemmas.List.{append-nil, length-append}
 use Rattle.std.proofs.Math.ListN.{drop_of_length-le}
 use Rattle.mast_sql.specs.declared.token.SqlKind.{SqlKind}
-use Rattle.mast_sql.specs.declared.machine.State.{State}
-use Rattle.mast_sql.specs.declared.machine.State.TheVariants.{Start}
-use Rattle.mast_sql.specs.declared.machine.Front.{Front}
+use Rattle.mast_sql.specs.declared.scanner.ScanState.{ScanState}
+use Rattle.mast_sql.specs.declared.scanner.ScanState.TheVariants.{Start}
+use Rattle.mast_sql.specs.declared.scanner.Scanned.{Scanned}
 use Rattle.mast_sql.specs.Tokens.{is_token}
-use Rattle.mast_sql.specs.Machine.{step, accept, on_step, accepts, better, longest, FrontWithin}
+use Rattle.mast_sql.specs.inside.Scanner.{step, accept, on_step, accepts, better, longest, ScannedWithin}
 use Rattle.mast_sql.specs.Source.{IsLongest, NoToken}
+use Rattle.mast_source.proofs.ListLemmas.{split_within}
 use Rattle.mast_sql.proofs.TokenLemmas.{token_accepted, accepted_token}
 
 -- an answer is at least so long
-abbrev pub AtLeast : Option Front → ℕ → Type 0
+abbrev pub AtLeast : Option Scanned → ℕ → Type 0
 AtLeast None m = ⊥
 AtLeast (Some f) m = m ≤ f.size
 
-better_least : (k : Option SqlKind) (n m : ℕ) (best : Option Front) → m ≤ n → AtLeast best m → AtLeast (better k n best) m
+better_least : (k : Option SqlKind) (n m : ℕ) (best : Option Scanned) → m ≤ n → AtLeast best m → AtLeast (better k n best) m
 better_least None n m best l h = h
 better_least (Some k) n m best l h = l
 
-kept : (bs : List ℕ) (s : State) (n m : ℕ) (best : Option Front) → m ≤ n → AtLeast best m → AtLeast (longest s n best bs) m
+kept : (bs : List ℕ) (s : ScanState) (n m : ℕ) (best : Option Scanned) → m ≤ n → AtLeast best m → AtLeast (longest s n best bs) m
 kept [] s n m best l h = h
 kept (b ∷ bs) s n m best l h = on (step s b) (λ t. kept bs t (n + 1) m (better (accept t) (n + 1) best) (omega arith) (better_least (accept t) (n + 1) m best (omega arith) h))
   where
-    on : (o : Option State) → ((t : State) → AtLeast (longest t (n + 1) (better (accept t) (n + 1) best) bs) m) → AtLeast (on_step o best (λ t. longest t (n + 1) (better (accept t) (n + 1) best) bs)) m
+    on : (o : Option ScanState) → ((t : ScanState) → AtLeast (longest t (n + 1) (better (accept t) (n + 1) best) bs) m) → AtLeast (on_step o best (λ t. longest t (n + 1) (better (accept t) (n + 1) best) bs)) m
     on None more = h
     on (Some t) more = more t
 
 -- what is accepted from a state on is no longer than the answer
-reached : (w rest : List ℕ) (t : State) (n : ℕ) (best : Option Front) (k : SqlKind) → accepts t w ≡ Some k → AtLeast (longest t n (better (accept t) n best) (w ++ rest)) (n + length w)
+reached : (w rest : List ℕ) (t : ScanState) (n : ℕ) (best : Option Scanned) (k : SqlKind) → accepts t w ≡ Some k → AtLeast (longest t n (better (accept t) n best) (w ++ rest)) (n + length w)
 reached [] rest t n best k h = kept rest t n (n + 0) (better (accept t) n best) (omega arith) (here (accept t) h)
   where
     here : (o : Option SqlKind) → o ≡ Some k → AtLeast (better o n best) (n + 0)
@@ -38,8 +39,8 @@ reached [] rest t n best k h = kept rest t n (n + 0) (better (accept t) n best) 
     here (Some j) h = omega arith
 reached (b ∷ w) rest t n best k h = on (step t b) h (λ u g. reached w rest u (n + 1) (better (accept t) n best) k g)
   where
-    on : (o : Option State) → on_step o None (λ u. accepts u w) ≡ Some k
-        → ((u : State) → accepts u w ≡ Some k → AtLeast (longest u (n + 1) (better (accept u) (n + 1) (better (accept t) n best)) (w ++ rest)) (n + 1 + length w))
+    on : (o : Option ScanState) → on_step o None (λ u. accepts u w) ≡ Some k
+        → ((u : ScanState) → accepts u w ≡ Some k → AtLeast (longest u (n + 1) (better (accept u) (n + 1) (better (accept t) n best)) (w ++ rest)) (n + 1 + length w))
         → AtLeast (on_step o (better (accept t) n best) (λ u. longest u (n + 1) (better (accept u) (n + 1) (better (accept t) n best)) (w ++ rest))) (n + length (b ∷ w))
     on None h more = absurd (cc)
     on (Some u) h more =
@@ -47,24 +48,24 @@ reached (b ∷ w) rest t n best k h = on (step t b) h (λ u g. reached w rest u 
         subst (λ m. AtLeast (longest u (n + 1) (better (accept u) (n + 1) (better (accept t) n best)) (w ++ rest)) m) size (more u h)
 
 -- the answer is accepted, or is the one that was known before
-abbrev pub Found : State → ℕ → List ℕ → Option Front → Type 0
+abbrev pub Found : ScanState → ℕ → List ℕ → Option Scanned → Type 0
 Found t n bs r = (k : SqlKind) × (w rest : List ℕ) × (bs ≡ w ++ rest) × (accepts t w ≡ Some k) × (r ≡ Some (record { kind = k; size = n + length w }))
 
-found_here : (o : Option SqlKind) (t : State) (n : ℕ) (best r : Option Front) (bs : List ℕ) → accept t ≡ o → better o n best ≡ r → (r ≡ best) ⊎ Found t n bs r
+found_here : (o : Option SqlKind) (t : ScanState) (n : ℕ) (best r : Option Scanned) (bs : List ℕ) → accept t ≡ o → better o n best ≡ r → (r ≡ best) ⊎ Found t n bs r
 found_here None t n best r bs e h = inl (sym h)
 found_here (Some k) t n best r bs e h = inr (k, [], bs, refl, e, sym h ∙ ap (λ m. Some (record { kind = k; size = m })) (omega arith))
 
-found_later : (b : ℕ) (bs : List ℕ) (t u : State) (n : ℕ) (r : Option Front) → step t b ≡ Some u → Found u (n + 1) bs r → Found t n (b ∷ bs) r
+found_later : (b : ℕ) (bs : List ℕ) (t u : ScanState) (n : ℕ) (r : Option Scanned) → step t b ≡ Some u → Found u (n + 1) bs r → Found t n (b ∷ bs) r
 found_later b bs t u n r e f =
     let size : n + 1 + length f.1 ≡ n + length (b ∷ f.1) = omega arith in
     (f.0, b ∷ f.1, f.2, ap (λ x. b ∷ x) f.3, ap (λ o. on_step o None (λ v. accepts v f.1)) e ∙ f.4, f.5 ∙ ap (λ m. Some (record { kind = f.0; size = m })) size)
 
-found : (bs : List ℕ) (t : State) (n : ℕ) (best r : Option Front) → longest t n (better (accept t) n best) bs ≡ r → (r ≡ best) ⊎ Found t n bs r
+found : (bs : List ℕ) (t : ScanState) (n : ℕ) (best r : Option Scanned) → longest t n (better (accept t) n best) bs ≡ r → (r ≡ best) ⊎ Found t n bs r
 found [] t n best r h = found_here (accept t) t n best r [] refl h
 found (b ∷ bs) t n best r h = on (step t b) refl h (λ u g. found bs u (n + 1) (better (accept t) n best) r g)
   where
-    on : (o : Option State) → step t b ≡ o → on_step o (better (accept t) n best) (λ u. longest u (n + 1) (better (accept u) (n + 1) (better (accept t) n best)) bs) ≡ r
-        → ((u : State) → longest u (n + 1) (better (accept u) (n + 1) (better (accept t) n best)) bs ≡ r → (r ≡ better (accept t) n best) ⊎ Found u (n + 1) bs r)
+    on : (o : Option ScanState) → step t b ≡ o → on_step o (better (accept t) n best) (λ u. longest u (n + 1) (better (accept u) (n + 1) (better (accept t) n best)) bs) ≡ r
+        → ((u : ScanState) → longest u (n + 1) (better (accept u) (n + 1) (better (accept t) n best)) bs ≡ r → (r ≡ better (accept t) n best) ⊎ Found u (n + 1) bs r)
         → (r ≡ best) ⊎ Found t n (b ∷ bs) r
     on None e h more = found_here (accept t) t n best r (b ∷ bs) refl h
     on (Some u) e h more = elim (more u h) [
@@ -74,12 +75,13 @@ found (b ∷ bs) t n best r h = on (step t b) refl h (λ u g. found bs u (n + 1)
 
 -- the front tells exactly
 
-abbrev pub FrontTells : List ℕ → Option Front → Type 0
-FrontTells bytes None = NoToken bytes
-FrontTells bytes (Some f) = (w rest : List ℕ) × (bytes ≡ w ++ rest) × IsLongest f.kind w rest × (length w ≡ f.size)
+-- the longest token that bytes begin with, or that they begin with none
+abbrev pub ScannedTells : List ℕ → Option Scanned → Type 0
+ScannedTells bytes None = NoToken bytes
+ScannedTells bytes (Some f) = (w rest : List ℕ) × (bytes ≡ w ++ rest) × IsLongest f.kind w rest × (length w ≡ f.size)
 
 -- the answer for a front
-at_front : (bs : List ℕ) (r : Option Front) → longest Start 0 None bs ≡ r → (r ≡ None) ⊎ Found Start 0 bs r
+at_front : (bs : List ℕ) (r : Option Scanned) → longest Start 0 None bs ≡ r → (r ≡ None) ⊎ Found Start 0 bs r
 at_front bs r h = found bs Start 0 None r h
 
 token_least : (k : SqlKind) (w rest : List ℕ) → is_token k w ≡ true → AtLeast (longest Start 0 None (w ++ rest)) (0 + length w)
@@ -95,13 +97,14 @@ is_longest k n w rest f l other more after e i =
     let least : AtLeast (Some (record { kind = k; size = n })) (0 + length (w ++ more)) = subst (λ x. AtLeast x (0 + length (w ++ more))) whole (token_least other (w ++ more) after i) in
     empty_of more w (omega arith)
 
-same_front : (f : Front) (k : SqlKind) (n : ℕ) → ◌≡◌ {A = Option Front} (Some f) (Some (record { kind = k; size = n })) → (f.kind ≡ k) × (f.size ≡ n)
+same_front : (f : Scanned) (k : SqlKind) (n : ℕ) → ◌≡◌ {A = Option Scanned} (Some f) (Some (record { kind = k; size = n })) → (f.kind ≡ k) × (f.size ≡ n)
 same_front f k n h = let e : f ≡ record { kind = k; size = n } = cc in (ap (λ x. x.kind) e, ap (λ x. x.size) e)
 
-pub front_tells : (bs : List ℕ) → FrontTells bs (longest Start 0 None bs)
+-- what the scanner finds is the longest token
+pub front_tells : (bs : List ℕ) → ScannedTells bs (longest Start 0 None bs)
 front_tells bs = go (longest Start 0 None bs) refl (at_front bs (longest Start 0 None bs) refl)
   where
-    told : (f : Front) → longest Start 0 None bs ≡ Some f → Found Start 0 bs (Some f) → FrontTells bs (Some f)
+    told : (f : Scanned) → longest Start 0 None bs ≡ Some f → Found Start 0 bs (Some f) → ScannedTells bs (Some f)
     told f h t =
         let s = same_front f t.0 (0 + length t.1) t.5 in
         let size = s.1 in
@@ -109,9 +112,9 @@ front_tells bs = go (longest Start 0 None bs) refl (at_front bs (longest Start 0
         let form : is_token f.kind t.1 ≡ true = subst (λ k. is_token k t.1 ≡ true) (sym s.0) (accepted_token t.0 t.1 t.4) in
         (t.1, t.2, t.3, record { form = form; longest = is_longest t.0 (0 + length t.1) t.1 t.2 whole refl }, omega arith)
 
-    go : (r : Option Front) → longest Start 0 None bs ≡ r → (r ≡ None) ⊎ Found Start 0 bs r → FrontTells bs r
+    go : (r : Option Scanned) → longest Start 0 None bs ≡ r → (r ≡ None) ⊎ Found Start 0 bs r → ScannedTells bs r
     go None h t = λ k w rest e i. subst (λ x. AtLeast x (0 + length w)) (ap (λ x. longest Start 0 None x) (sym e) ∙ h) (token_least k w rest i)
-    go (Some f) h (inl e) = absurd (let c : ◌≡◌ {A = Option Front} (Some f) None = e in cc)
+    go (Some f) h (inl e) = absurd (let c : ◌≡◌ {A = Option Scanned} (Some f) None = e in cc)
     go (Some f) h (inr t) = told f h t
 
 -- a token has a byte at least
@@ -119,10 +122,10 @@ pub word_some : (k : SqlKind) (w : List ℕ) → is_token k w ≡ true → 0 < l
 word_some k [] h = absurd (cc)
 word_some k (b ∷ w) h = omega arith
 
-pub front_within : (bs : List ℕ) → FrontWithin (length bs) (longest Start 0 None bs)
+pub front_within : (bs : List ℕ) → ScannedWithin (length bs) (longest Start 0 None bs)
 front_within bs = go (longest Start 0 None bs) (front_tells bs)
   where
-    go : (r : Option Front) → FrontTells bs r → FrontWithin (length bs) r
+    go : (r : Option Scanned) → ScannedTells bs r → ScannedWithin (length bs) r
     go None t = tt
     go (Some f) t =
         let size = t.4 in
@@ -132,31 +135,24 @@ front_within bs = go (longest Start 0 None bs) (front_tells bs)
 
 -- where the scan stops, the best so far is the answer
 
-pub stopped_within : (bs : List ℕ) (i : ℕ) (s : State) (n : ℕ) (best : Option Front) → longest s n best (drop i bs) ≡ longest Start 0 None bs → i < length bs → step s (get_or bs i 0) ≡ None → FrontWithin (length bs) best
+-- where the scan stops, the best so far is within the bytes
+pub stopped_within : (bs : List ℕ) (i : ℕ) (s : ScanState) (n : ℕ) (best : Option Scanned) → longest s n best (drop i bs) ≡ longest Start 0 None bs → i < length bs → step s (get_or bs i 0) ≡ None → ScannedWithin (length bs) best
 stopped_within bs i s n best e h none =
     let stop : longest s n best (get_or bs i 0 ∷ drop (suc i) bs) ≡ best = ap (λ o. on_step o best (λ t. longest t (n + 1) (better (accept t) (n + 1) best) (drop (suc i) bs))) none in
     let same : best ≡ longest Start 0 None bs = sym stop ∙ ap (λ x. longest s n best x) (sym (drop-cons bs i 0 h)) ∙ e in
-    subst (λ x. FrontWithin (length bs) x) (sym same) (front_within bs)
+    subst (λ x. ScannedWithin (length bs) x) (sym same) (front_within bs)
 
-pub ended_within : (bs : List ℕ) (i : ℕ) (s : State) (n : ℕ) (best : Option Front) → longest s n best (drop i bs) ≡ longest Start 0 None bs → length bs ≤ i → FrontWithin (length bs) best
+-- and so it is at the end of the bytes
+pub ended_within : (bs : List ℕ) (i : ℕ) (s : ScanState) (n : ℕ) (best : Option Scanned) → longest s n best (drop i bs) ≡ longest Start 0 None bs → length bs ≤ i → ScannedWithin (length bs) best
 ended_within bs i s n best e h =
     let same : best ≡ longest Start 0 None bs = ap (λ x. longest s n best x) (sym (drop_of_length-le bs h)) ∙ e in
-    subst (λ x. FrontWithin (length bs) x) (sym same) (front_within bs)
+    subst (λ x. ScannedWithin (length bs) x) (sym same) (front_within bs)
 
--- two splits of one list, the first no longer than the second
-split_within : (w rest v after : List ℕ) → w ++ rest ≡ v ++ after → length w ≤ length v → (more : List ℕ) × (v ≡ w ++ more) × (rest ≡ more ++ after)
-split_within [] rest v after e h = (v, refl, e)
-split_within (b ∷ w) rest [] after e h = absurd (omega arith)
-split_within (b ∷ w) rest (c ∷ v) after e h =
-    let s : w ++ rest ≡ v ++ after = cc in
-    let t = split_within w rest v after s (omega arith) in
-    let same : c ≡ b = cc in
-    (t.0, ap (λ x. x ∷ v) same ∙ ap (λ x. b ∷ x) t.1, t.2)
-
+-- the longest token is found
 pub front_of_token : (k : SqlKind) (w rest : List ℕ) → IsLongest k w rest → longest Start 0 None (w ++ rest) ≡ Some (record { kind = k; size = length w })
 front_of_token k w rest l = go (longest Start 0 None (w ++ rest)) (token_least k w rest l.form) (at_front (w ++ rest) (longest Start 0 None (w ++ rest)) refl)
   where
-    told : (f : Front) → (0 + length w) ≤ f.size → Found Start 0 (w ++ rest) (Some f) → ◌≡◌ {A = Option Front} (Some f) (Some (record { kind = k; size = length w }))
+    told : (f : Scanned) → (0 + length w) ≤ f.size → Found Start 0 (w ++ rest) (Some f) → ◌≡◌ {A = Option Scanned} (Some f) (Some (record { kind = k; size = length w }))
     told f a t =
         let s = same_front f t.0 (0 + length t.1) t.5 in
         let size = s.1 in
@@ -169,11 +165,12 @@ front_of_token k w rest l = go (longest Start 0 None (w ++ rest)) (token_least k
         let lengths : 0 + length t.1 ≡ length w = ap (λ x. 0 + length x) same ∙ omega arith in
         t.5 ∙ ap (λ x. Some (record { kind = x; size = 0 + length t.1 })) kind ∙ ap (λ x. Some (record { kind = k; size = x })) lengths
 
-    go : (r : Option Front) → AtLeast r (0 + length w) → (r ≡ None) ⊎ Found Start 0 (w ++ rest) r → r ≡ Some (record { kind = k; size = length w })
+    go : (r : Option Scanned) → AtLeast r (0 + length w) → (r ≡ None) ⊎ Found Start 0 (w ++ rest) r → r ≡ Some (record { kind = k; size = length w })
     go None a t = absurd a
-    go (Some f) a (inl e) = absurd (let c : ◌≡◌ {A = Option Front} (Some f) None = e in cc)
+    go (Some f) a (inl e) = absurd (let c : ◌≡◌ {A = Option Scanned} (Some f) None = e in cc)
     go (Some f) a (inr t) = told f a t
 
+-- where no token begins, none is found
 pub front_of_none : (bs : List ℕ) → NoToken bs → longest Start 0 None bs ≡ None
 front_of_none bs no_one = elim (at_front bs (longest Start 0 None bs) refl) [
   | inl e ↦ e

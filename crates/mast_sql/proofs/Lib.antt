@@ -3,11 +3,13 @@ pub mod DateLemmas
 pub mod ForthLemmas
 pub mod FrontLemmas
 pub mod GapLemmas
-pub mod LexerLemmas
+pub mod LexedLemmas
 pub mod LookLemmas
-pub mod MachineLemmas
+pub mod NinthLemmas
 pub mod ReaderLemmas
 pub mod ReadsLemmas
+pub mod RunLemmas
+pub mod ScannerLemmas
 pub mod SourceLemmas
 pub mod SymbolLemmas
 pub mod TokenLawLemmas

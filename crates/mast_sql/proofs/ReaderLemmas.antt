@@ -10,27 +10,27 @@ use Rattle.mast_sql.specs.declared.query.SourceQuery.{SourceQuery}
 use Rattle.mast_sql.specs.declared.query.SqlBreach.{SqlBreach}
 use Rattle.mast_sql.specs.declared.query.SqlBreachKind.{SqlBreachKind}
 use Rattle.mast_sql.specs.declared.query.SqlBreachKind.TheVariants.{Grammar, Aliases}
-use Rattle.mast_sql.specs.declared.place.Place.{Place}
-use Rattle.mast_sql.specs.declared.place.Place.TheVariants as place
-use Rattle.mast_sql.specs.Places.{empty, at as there, step, finish, is_ninth, Found, fine, grammar, aliases, later, on_finish, on_step, look}
+use Rattle.mast_sql.specs.declared.parser.ParseState.{ParseState}
+use Rattle.mast_sql.specs.declared.parser.ParseState.TheVariants as state
+use Rattle.mast_sql.specs.inside.Parser.{empty, at as there, step, finish, is_ninth, later, on_finish, on_step, look}
 use Rattle.mast_sql.specs.Source.{AreTokens}
-use Rattle.mast_sql.specs.Outcome.{Answers}
+use Rattle.mast_terms.specs.Answers.{Answers}
 use Rattle.mast_sql.specs.Symbols.{span, IsPlaced, IsSymbol}
-use Rattle.mast_sql.specs.Grammar.{Tells, found_of, IsSourceQuery, IsSqlBreach}
+use Rattle.mast_sql.specs.Grammar.{Found, fine, grammar, aliases, Tells, found_of, IsSourceQuery, IsSqlBreach}
 use Rattle.mast_sql.specs.Laws.{HasOneQuery}
 use Rattle.mast_sql.proofs.LookLemmas.{look_exact, only_one, later_none, later_more}
 use Rattle.mast_sql.proofs.SymbolLemmas.{tokens_placed, placed_at, only_symbol, the_symbols, are_symbols, only_symbols}
 
 -- what the machine tells of all symbols of a text
 abbrev pub told : List ℕ → List SqlToken → Found
-told text tokens = look place.Start empty (the_symbols text tokens)
+told text tokens = look state.Start empty (the_symbols text tokens)
 
 -- what the loop keeps: what is told of the symbols from token i on, at a place, is what is told of all
-abbrev pub Keeps : List ℕ → List SqlToken → Place → SourceQuery → ℕ → Type 0
+abbrev pub Keeps : List ℕ → List SqlToken → ParseState → SourceQuery → ℕ → Type 0
 Keeps text tokens p q i = later i (look p q (the_symbols text (drop i tokens))) ≡ told text tokens
 
-pub keeps_first : (text : List ℕ) (tokens : List SqlToken) (q : SourceQuery) → q ≡ empty → Keeps text tokens place.Start q 0
-keeps_first text tokens q e = later_none (look place.Start q (the_symbols text tokens)) ∙ ap (λ x. look place.Start x (the_symbols text tokens)) e
+pub keeps_first : (text : List ℕ) (tokens : List SqlToken) (q : SourceQuery) → q ≡ empty → Keeps text tokens state.Start q 0
+keeps_first text tokens q e = later_none (look state.Start q (the_symbols text tokens)) ∙ ap (λ x. look state.Start x (the_symbols text tokens)) e
 
 -- the symbol of token i first
 from_here : (text : List ℕ) (tokens : List SqlToken) (i : ℕ) (d : SqlToken) (s : Symbol) → i < length tokens → IsSymbol (get_or tokens i d).kind (span text (get_or tokens i d)) s → the_symbols text (drop i tokens) ≡ s ∷ the_symbols text (drop (suc i) tokens)
@@ -38,23 +38,26 @@ from_here text tokens i d s l h =
     ap (λ x. the_symbols text x) (drop-cons tokens i d l)
     ∙ ap (λ x. x ∷ the_symbols text (drop (suc i) tokens)) (sym (only_symbol (get_or tokens i d).kind (span text (get_or tokens i d)) s h))
 
-look_ninth : (p : Place) (q : SourceQuery) (k : Symbol) (ks : List Symbol) → is_ninth p q k ≡ true → look p q (k ∷ ks) ≡ aliases 0
+look_ninth : (p : ParseState) (q : SourceQuery) (k : Symbol) (ks : List Symbol) → is_ninth p q k ≡ true → look p q (k ∷ ks) ≡ aliases 0
 look_ninth p q k ks h = rw h refl
 
-look_step : (p : Place) (q : SourceQuery) (k : Symbol) (ks : List Symbol) (o : Option (Place × SourceQuery)) → is_ninth p q k ≡ false → o ≡ step p q k → look p q (k ∷ ks) ≡ on_step o (grammar 0) (λ p2 q2. later 1 (look p2 q2 ks))
+look_step : (p : ParseState) (q : SourceQuery) (k : Symbol) (ks : List Symbol) (o : Option (ParseState × SourceQuery)) → is_ninth p q k ≡ false → o ≡ step p q k → look p q (k ∷ ks) ≡ on_step o (grammar 0) (λ p2 q2. later 1 (look p2 q2 ks))
 look_step p q k ks o h e = rw h (ap (λ x. on_step x (grammar 0) (λ p2 q2. later 1 (look p2 q2 ks))) (sym e))
 
-pub ninth_told : (text : List ℕ) (tokens : List SqlToken) (p : Place) (q : SourceQuery) (i : ℕ) (d : SqlToken) (s : Symbol) → Keeps text tokens p q i → i < length tokens → IsSymbol (get_or tokens i d).kind (span text (get_or tokens i d)) s → is_ninth p q s ≡ true → told text tokens ≡ aliases i
+-- where the ninth entry begins, that is told of all
+pub ninth_told : (text : List ℕ) (tokens : List SqlToken) (p : ParseState) (q : SourceQuery) (i : ℕ) (d : SqlToken) (s : Symbol) → Keeps text tokens p q i → i < length tokens → IsSymbol (get_or tokens i d).kind (span text (get_or tokens i d)) s → is_ninth p q s ≡ true → told text tokens ≡ aliases i
 ninth_told text tokens p q i d s k l h n =
     sym k ∙ ap (λ x. later i (look p q x)) (from_here text tokens i d s l h) ∙ ap (λ x. later i x) (look_ninth p q s (the_symbols text (drop (suc i) tokens)) n) ∙ ap (λ m. aliases m) (omega arith)
 
-pub grammar_told : (text : List ℕ) (tokens : List SqlToken) (p : Place) (q q2 : SourceQuery) (i : ℕ) (d : SqlToken) (s : Symbol) (next : Option Place) → Keeps text tokens p q i → i < length tokens → IsSymbol (get_or tokens i d).kind (span text (get_or tokens i d)) s → is_ninth p q s ≡ false → there q2 next ≡ step p q s → next ≡ None → told text tokens ≡ grammar i
+-- where a symbol can not come, that is told of all
+pub grammar_told : (text : List ℕ) (tokens : List SqlToken) (p : ParseState) (q q2 : SourceQuery) (i : ℕ) (d : SqlToken) (s : Symbol) (next : Option ParseState) → Keeps text tokens p q i → i < length tokens → IsSymbol (get_or tokens i d).kind (span text (get_or tokens i d)) s → is_ninth p q s ≡ false → there q2 next ≡ step p q s → next ≡ None → told text tokens ≡ grammar i
 grammar_told text tokens p q q2 i d s next k l h n g e =
     let rest = the_symbols text (drop (suc i) tokens) in
     sym k ∙ ap (λ x. later i (look p q x)) (from_here text tokens i d s l h) ∙ ap (λ x. later i x) (look_step p q s rest (there q2 next) n g)
     ∙ ap (λ x. later i (on_step (there q2 x) (grammar 0) (λ p3 q3. later 1 (look p3 q3 rest)))) e ∙ ap (λ m. grammar m) (omega arith)
 
-pub step_keeps : (text : List ℕ) (tokens : List SqlToken) (p p2 : Place) (q q2 : SourceQuery) (i : ℕ) (d : SqlToken) (s : Symbol) (next : Option Place) → Keeps text tokens p q i → i < length tokens → IsSymbol (get_or tokens i d).kind (span text (get_or tokens i d)) s → is_ninth p q s ≡ false → there q2 next ≡ step p q s → next ≡ Some p2 → Keeps text tokens p2 q2 (i + 1)
+-- a step keeps what is told
+pub step_keeps : (text : List ℕ) (tokens : List SqlToken) (p p2 : ParseState) (q q2 : SourceQuery) (i : ℕ) (d : SqlToken) (s : Symbol) (next : Option ParseState) → Keeps text tokens p q i → i < length tokens → IsSymbol (get_or tokens i d).kind (span text (get_or tokens i d)) s → is_ninth p q s ≡ false → there q2 next ≡ step p q s → next ≡ Some p2 → Keeps text tokens p2 q2 (i + 1)
 step_keeps text tokens p p2 q q2 i d s next k l h n g e =
     let rest = the_symbols text (drop (suc i) tokens) in
     let plus : i + 1 ≡ suc i = omega arith in
@@ -65,20 +68,22 @@ step_keeps text tokens p p2 q q2 i d s next k l h n g e =
     ∙ sym (ap (λ x. later i (look p q x)) (from_here text tokens i d s l h))
     ∙ k
 
-at_end : (text : List ℕ) (tokens : List SqlToken) (p : Place) (q : SourceQuery) (i : ℕ) → Keeps text tokens p q i → length tokens ≤ i → told text tokens ≡ later i (on_finish (finish p q))
+at_end : (text : List ℕ) (tokens : List SqlToken) (p : ParseState) (q : SourceQuery) (i : ℕ) → Keeps text tokens p q i → length tokens ≤ i → told text tokens ≡ later i (on_finish (finish p q))
 at_end text tokens p q i k l = sym k ∙ ap (λ x. later i (look p q (the_symbols text x))) (drop_of_length-le tokens l)
 
-pub end_told : (text : List ℕ) (tokens : List SqlToken) (p : Place) (q : SourceQuery) (i : ℕ) (whole : Option SourceQuery) → Keeps text tokens p q i → length tokens ≤ i → whole ≡ finish p q → whole ≡ None → told text tokens ≡ grammar i
+-- where the symbols end and no query does, that is told of all
+pub end_told : (text : List ℕ) (tokens : List SqlToken) (p : ParseState) (q : SourceQuery) (i : ℕ) (whole : Option SourceQuery) → Keeps text tokens p q i → length tokens ≤ i → whole ≡ finish p q → whole ≡ None → told text tokens ≡ grammar i
 end_told text tokens p q i whole k l f e = at_end text tokens p q i k l ∙ ap (λ x. later i (on_finish x)) (sym f ∙ e) ∙ ap (λ m. grammar m) (omega arith)
 
-pub whole_told : (text : List ℕ) (tokens : List SqlToken) (p : Place) (q r : SourceQuery) (i : ℕ) (whole : Option SourceQuery) → Keeps text tokens p q i → length tokens ≤ i → whole ≡ finish p q → whole ≡ Some r → told text tokens ≡ fine r
+-- where both end, the query is told of all
+pub whole_told : (text : List ℕ) (tokens : List SqlToken) (p : ParseState) (q r : SourceQuery) (i : ℕ) (whole : Option SourceQuery) → Keeps text tokens p q i → length tokens ≤ i → whole ≡ finish p q → whole ≡ Some r → told text tokens ≡ fine r
 whole_told text tokens p q r i whole k l f e = at_end text tokens p q i k l ∙ ap (λ x. later i (on_finish x)) (sym f ∙ e)
 
--- what is told is the query or the breach
-
+-- what is told is the query
 pub is_query : (text : List ℕ) (tokens : List SqlToken) (q : SourceQuery) → AreTokens text tokens → told text tokens ≡ fine q → IsSourceQuery text tokens q
 is_query text tokens q h e = (the_symbols text tokens, are_symbols text tokens (tokens_placed text tokens h), subst (λ f. Tells (the_symbols text tokens) f) e (look_exact (the_symbols text tokens)))
 
+-- or the breach
 pub is_breach : (text : List ℕ) (tokens : List SqlToken) (breach : SqlBreach) → AreTokens text tokens → told text tokens ≡ found_of breach.kind breach.token → IsSqlBreach text tokens breach
 is_breach text tokens breach h e = (the_symbols text tokens, are_symbols text tokens (tokens_placed text tokens h), subst (λ f. Tells (the_symbols text tokens) f) e (look_exact (the_symbols text tokens)))
 
@@ -111,6 +116,7 @@ same_found Aliases Aliases m n h = (refl, cc)
 same_breach : (a b : SqlBreach) → (a.kind ≡ b.kind) × (a.token ≡ b.token) → a ≡ b
 same_breach a b h = λ i. record { token = h.1 i; kind = h.0 i }
 
+-- the tokens of a text are one query or have one first breach
 pub has_one_query : (text : List ℕ) (tokens : List SqlToken) → AreTokens text tokens → HasOneQuery text tokens
 has_one_query text tokens h = record {
   either = either_told text tokens h (told text tokens) refl;
@@ -121,11 +127,13 @@ has_one_query text tokens h = record {
 
 -- the answers of the call
 
+-- the answer of a breach
 pub breach_answer : (text bytes : List ℕ) (tokens : List SqlToken) (i j : ℕ) (k : SqlBreachKind) (stop : Stop SqlBreach) → AreTokens text tokens → bytes ≡ text → stop ≡ Named (record { token = i; kind = k }) → i ≡ j → told bytes tokens ≡ found_of k j → Answers (Err stop) (IsSourceQuery text tokens) (IsSqlBreach text tokens)
 breach_answer text bytes tokens i j k stop h b e s t =
     subst (λ x. Answers (Err x) (IsSourceQuery text tokens) (IsSqlBreach text tokens)) (sym e)
     (is_breach text tokens (record { token = i; kind = k }) h (ap (λ x. told x tokens) (sym b) ∙ t ∙ ap (λ n. found_of k n) (sym s)))
 
+-- the answer of a query
 pub query_answer : (text bytes : List ℕ) (tokens : List SqlToken) (q : SourceQuery) → AreTokens text tokens → bytes ≡ text → told bytes tokens ≡ fine q → IsSourceQuery text tokens q
 query_answer text bytes tokens q h b t = is_query text tokens q h (ap (λ x. told x tokens) (sym b) ∙ t)
 

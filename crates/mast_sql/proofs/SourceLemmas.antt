@@ -3,29 +3,27 @@ use Rattle.std.proofs.Common.{◌≡◌, inl, inr, ℕ, zero, suc, ◌+◌, ◌�
 use Rattle.std.specs.Prelude.{Option, Some, None}
 use Rattle.std.proofs.lemmas.List.{length-append}
 use Rattle.std.proofs.lemmas.Bool.{and_parts, cases_Bool}
+use Rattle.mast_source.proofs.ByteLemmas.{is_byte, other_byte}
+use Rattle.mast_source.proofs.ListLemmas.{drop_split}
 use Rattle.std.proofs.Math.ListN.{drop_of_length-le}
 use Rattle.std.proofs.Math.Seq.{drop-append_seam}
 use Rattle.mast_sql.specs.declared.token.SqlToken.{SqlToken}
 use Rattle.mast_sql.specs.declared.token.SqlKind.{SqlKind}
 use Rattle.mast_sql.specs.declared.token.SqlKind.TheVariants.{Word, Pname, Var, Iri, Integer, Quoted, Doubled, Sign}
-use Rattle.mast_sql.specs.declared.machine.Front.{Front}
-use Rattle.mast_sql.specs.declared.machine.Gap.TheVariants.{Plain}
-use Rattle.mast_sql.specs.declared.machine.State.TheVariants.{Start}
+use Rattle.mast_sql.specs.declared.scanner.Scanned.{Scanned}
+use Rattle.mast_sql.specs.declared.scanner.Gap.TheVariants.{Plain}
+use Rattle.mast_sql.specs.declared.scanner.ScanState.TheVariants.{Start}
 use Rattle.mast_sql.specs.Tokens.{is_letter, is_digit, is_single, is_blank, are_gap, is_token, are_word, are_digits, pname_rest, word, iri_rest, number, quoted_rest, doubled_rest, is_sign}
-use Rattle.mast_sql.specs.Machine.{longest, gap_scan}
+use Rattle.mast_sql.specs.inside.Scanner.{longest, gap_scan}
 use Rattle.mast_sql.specs.Source.{IsLongest, Lexes, NoGap, Stops}
-use Rattle.mast_sql.specs.Lexed.{Lexed, read, wrong, added, on_front, on_rest, lexed}
-use Rattle.mast_sql.proofs.MachineLemmas.{is_byte, other_byte}
-use Rattle.mast_sql.proofs.FrontLemmas.{FrontTells, front_tells, front_of_token, front_of_none, word_some}
+use Rattle.mast_sql.specs.inside.Lexed.{Lexed, read, wrong, added, on_scanned, on_rest, lexed}
+use Rattle.mast_sql.proofs.FrontLemmas.{ScannedTells, front_tells, front_of_token, front_of_none, word_some}
 use Rattle.mast_sql.proofs.GapLemmas.{gap_told, gap_whole, gap_ends}
 
 -- what is read is right
 abbrev pub Told : ℕ → List ℕ → Lexed → Type 0
 Told at bytes (read tokens) = Lexes at bytes tokens
 Told at bytes (wrong n) = Stops bytes n
-
-drop_split : (w rest bs : List ℕ) (n : ℕ) → bs ≡ w ++ rest → length w ≡ n → drop n bs ≡ rest
-drop_split w rest bs n e l = ap (λ m. drop m bs) (sym l) ∙ ap (λ x. drop (length w) x) e ∙ drop-append_seam w rest
 
 -- a token begins no blank and no comment
 
@@ -53,11 +51,11 @@ unfolding is_single
 single_clear b h = clear_class is_single b h refl refl refl refl refl refl
 
 clear_gap : (b : ℕ) (bs : List ℕ) → Clear b → NoGap (b ∷ bs)
-clear_gap b bs h = (h.0, h.1, rw h.2 refl)
+clear_gap b bs h = (h.0, rw (h.1, h.2) refl)
 
-mark_clear : (b : ℕ) → (b == 63 || b == 36) ≡ true → Clear b
+sigil_clear : (b : ℕ) → (b == 63 || b == 36) ≡ true → Clear b
 unfolding is_blank
-mark_clear b h = elim (cases_Bool (b == 63)) [
+sigil_clear b h = elim (cases_Bool (b == 63)) [
   | inl e ↦ clear_byte b 63 e (refl, refl, refl)
   | inr e ↦ clear_byte b 36 (rw e at h) (refl, refl, refl)
 ]
@@ -92,7 +90,7 @@ unfolding is_blank is_digit
 minus_gap b [] rest e h = absurd (cc)
 minus_gap b (c ∷ w) rest e h =
     let p = and_parts (is_digit c) (are_digits w) h in
-    subst (λ x. NoGap (x ∷ (c ∷ (w ++ rest)))) (sym (is_byte b 45 e)) (refl, refl, other_byte is_digit c 45 p.0 refl)
+    subst (λ x. NoGap (x ∷ (c ∷ (w ++ rest)))) (sym (is_byte b 45 e)) (refl, other_byte is_digit c 45 p.0 refl)
 
 token_no_gap : (k : SqlKind) (w rest : List ℕ) → is_token k w ≡ true → NoGap (w ++ rest)
 unfolding is_blank
@@ -105,7 +103,7 @@ token_no_gap Pname (b ∷ w) rest h = elim (cases_Bool (b == 58)) [
       let p = and_parts (is_letter b) (pname_rest w) g in
       clear_gap b (w ++ rest) (letter_clear b p.0)
 ]
-token_no_gap Var (b ∷ w) rest h = let p = and_parts (b == 63 || b == 36) (word w) h in clear_gap b (w ++ rest) (mark_clear b p.0)
+token_no_gap Var (b ∷ w) rest h = let p = and_parts (b == 63 || b == 36) (word w) h in clear_gap b (w ++ rest) (sigil_clear b p.0)
 token_no_gap Iri (b ∷ w) rest h = let p = and_parts (b == 60) (iri_rest w) h in clear_gap b (w ++ rest) (clear_byte b 60 p.0 (refl, refl, refl))
 token_no_gap Integer (b ∷ w) rest h = elim (cases_Bool (b == 45)) [
   | inl e ↦ minus_gap b w rest e (rw e at h)
@@ -120,13 +118,13 @@ token_no_gap Sign (b ∷ w) rest h = clear_gap b (w ++ rest) (sign_clear b w h)
 
 -- what is read is right
 
-cons_told : (at : ℕ) (bs gap word rest : List ℕ) (t : SqlToken) (l : Lexed) → bs ≡ gap ++ (word ++ rest) → are_gap Plain gap ≡ true → IsLongest t.kind word rest → t.from ≡ at + length gap → t.to ≡ t.from + length word → Told t.to rest l → Told at bs (added (t ∷ []) l)
+cons_told : (at : ℕ) (bs gap word rest : List ℕ) (t : SqlToken) (l : Lexed) → bs ≡ gap ++ (word ++ rest) → are_gap false gap ≡ true → IsLongest t.kind word rest → t.from ≡ at + length gap → t.to ≡ t.from + length word → Told t.to rest l → Told at bs (added (t ∷ []) l)
 cons_told at bs gap word rest t (read ts) e b i f o h = (gap, word, rest, e, b, i, f, o, h)
 cons_told at bs gap word rest t (wrong n) e b i f o h =
     let more : suc n ≡ length (t ∷ []) + n = omega arith in
     subst (λ m. Stops bs m) more (gap, word, rest, t.kind, e, b, i, h)
 
-front_told : (turns at : ℕ) (bs gap after : List ℕ) (f : Option Front) → bs ≡ gap ++ after → are_gap Plain gap ≡ true → NoGap after → FrontTells after f → length bs ≤ suc turns → ((from : ℕ) (rest : List ℕ) → length rest ≤ turns → Told from rest (lexed turns from rest)) → Told at bs (on_front f (at + length gap) after (lexed turns))
+front_told : (turns at : ℕ) (bs gap after : List ℕ) (f : Option Scanned) → bs ≡ gap ++ after → are_gap false gap ≡ true → NoGap after → ScannedTells after f → length bs ≤ suc turns → ((from : ℕ) (rest : List ℕ) → length rest ≤ turns → Told from rest (lexed turns from rest)) → Told at bs (on_scanned f (at + length gap) after (lexed turns))
 front_told turns at bs gap after None e b no_gap t size more = (gap, after, e, b, no_gap, t)
 front_told turns at bs gap after (Some f) e b no_gap t size more =
     let word = t.0 in
@@ -140,10 +138,11 @@ front_told turns at bs gap after (Some f) e b no_gap t size more =
     let whole : Told at bs (added (token ∷ []) (lexed turns (from + f.size) rest)) = cons_told at bs gap word rest token (lexed turns (from + f.size) rest) (e ∙ ap (λ x. gap ++ x) t.2) b t.3 refl (ap (λ x. from + x) (sym t.4)) told in
     subst (λ x. Told at bs (added (token ∷ []) (lexed turns (from + f.size) x))) (sym (drop_split word rest after f.size t.2 t.4)) whole
 
-rest_told : (turns at : ℕ) (bs gap after : List ℕ) → bs ≡ gap ++ after → are_gap Plain gap ≡ true → NoGap after → length bs ≤ suc turns → ((from : ℕ) (rest : List ℕ) → length rest ≤ turns → Told from rest (lexed turns from rest)) → Told at bs (on_rest (at + length gap) after (lexed turns))
+rest_told : (turns at : ℕ) (bs gap after : List ℕ) → bs ≡ gap ++ after → are_gap false gap ≡ true → NoGap after → length bs ≤ suc turns → ((from : ℕ) (rest : List ℕ) → length rest ≤ turns → Told from rest (lexed turns from rest)) → Told at bs (on_rest (at + length gap) after (lexed turns))
 rest_told turns at bs gap [] e b no_gap size more = absurd no_gap
 rest_told turns at bs gap (c ∷ after) e b no_gap size more = front_told turns at bs gap (c ∷ after) (longest Start 0 None (c ∷ after)) e b no_gap (front_tells (c ∷ after)) size more
 
+-- what is read is right
 pub lexed_told : (turns at : ℕ) (bs : List ℕ) → length bs ≤ turns → Told at bs (lexed turns at bs)
 lexed_told zero at [] h = refl
 lexed_told zero at (b ∷ bs) h = absurd (omega arith)
@@ -160,31 +159,31 @@ lexed_told (suc turns) at bs h = elim (gap_told bs) [
 
 -- what is right is read
 
-gap_turn : (turns at : ℕ) (bs gap after : List ℕ) → bs ≡ gap ++ after → are_gap Plain gap ≡ true → NoGap after → lexed (suc turns) at bs ≡ on_rest (at + length gap) after (lexed turns)
+gap_turn : (turns at : ℕ) (bs gap after : List ℕ) → bs ≡ gap ++ after → are_gap false gap ≡ true → NoGap after → lexed (suc turns) at bs ≡ on_rest (at + length gap) after (lexed turns)
 gap_turn turns at bs gap after e b no_gap =
     let size : length gap ≡ gap_scan 0 Plain bs = sym (ap (λ x. gap_scan 0 Plain x) e ∙ gap_whole gap after b no_gap) in
     ap (λ x. on_rest (at + x) (drop (gap_scan 0 Plain bs) bs) (lexed turns)) (sym size)
     ∙ ap (λ x. on_rest (at + length gap) x (lexed turns)) (drop_split gap after bs (gap_scan 0 Plain bs) e size)
 
-rest_front : (from : ℕ) (after : List ℕ) (more : ℕ → List ℕ → Lexed) → NoGap after → on_rest from after more ≡ on_front (longest Start 0 None after) from after more
+rest_front : (from : ℕ) (after : List ℕ) (more : ℕ → List ℕ → Lexed) → NoGap after → on_rest from after more ≡ on_scanned (longest Start 0 None after) from after more
 rest_front from [] more h = absurd h
 rest_front from (b ∷ after) more h = refl
 
 token_is : (t : SqlToken) (from to : ℕ) → t.from ≡ from → t.to ≡ to → ◌≡◌ {A = SqlToken} (record { kind = t.kind; from = from; to = to }) t
 token_is t from to f o = λ i. record { kind = t.kind; from = sym f i; to = sym o i }
 
-token_turn : (turns at : ℕ) (bs gap word rest : List ℕ) (k : SqlKind) → bs ≡ gap ++ (word ++ rest) → are_gap Plain gap ≡ true → IsLongest k word rest → lexed (suc turns) at bs ≡ added (record { kind = k; from = at + length gap; to = at + length gap + length word } ∷ []) (lexed turns (at + length gap + length word) rest)
+token_turn : (turns at : ℕ) (bs gap word rest : List ℕ) (k : SqlKind) → bs ≡ gap ++ (word ++ rest) → are_gap false gap ≡ true → IsLongest k word rest → lexed (suc turns) at bs ≡ added (record { kind = k; from = at + length gap; to = at + length gap + length word } ∷ []) (lexed turns (at + length gap + length word) rest)
 token_turn turns at bs gap word rest k e b i =
     let from = at + length gap in
     let token : SqlToken = record { kind = k; from = from; to = from + length word } in
     let no_gap = token_no_gap k word rest i.form in
     gap_turn turns at bs gap (word ++ rest) e b no_gap
     ∙ rest_front from (word ++ rest) (lexed turns) no_gap
-    ∙ ap (λ f. on_front f from (word ++ rest) (lexed turns)) (front_of_token k word rest i)
+    ∙ ap (λ f. on_scanned f from (word ++ rest) (lexed turns)) (front_of_token k word rest i)
     ∙ ap (λ x. added (token ∷ []) (lexed turns (from + length word) x)) (drop-append_seam word rest)
 
 -- the same turn, with the token as it is given
-given_turn : (turns at : ℕ) (bs gap word rest : List ℕ) (t : SqlToken) → bs ≡ gap ++ (word ++ rest) → are_gap Plain gap ≡ true → IsLongest t.kind word rest → t.from ≡ at + length gap → t.to ≡ t.from + length word → lexed (suc turns) at bs ≡ added (t ∷ []) (lexed turns t.to rest)
+given_turn : (turns at : ℕ) (bs gap word rest : List ℕ) (t : SqlToken) → bs ≡ gap ++ (word ++ rest) → are_gap false gap ≡ true → IsLongest t.kind word rest → t.from ≡ at + length gap → t.to ≡ t.from + length word → lexed (suc turns) at bs ≡ added (t ∷ []) (lexed turns t.to rest)
 given_turn turns at bs gap word rest t e b i f o =
     let to : t.to ≡ at + length gap + length word = o ∙ ap (λ x. x + length word) f in
     token_turn turns at bs gap word rest t.kind e b i
@@ -205,6 +204,7 @@ not_empty bs gap word rest k e i h =
     let more = length-append word rest in
     omega arith
 
+-- the tokens of bytes are read
 pub lexes_read : (turns at : ℕ) (bs : List ℕ) (ts : List SqlToken) → length bs ≤ turns → Lexes at bs ts → lexed turns at bs ≡ read ts
 lexes_read zero at bs [] h t = refl
 lexes_read zero at bs (u ∷ ts) h t = absurd (not_empty bs t.0 t.1 t.2 u.kind t.3 t.5.form h)
@@ -216,6 +216,7 @@ lexes_read (suc turns) at bs (u ∷ ts) h t =
     given_turn turns at bs t.0 t.1 t.2 u t.3 t.4 t.5 t.6 t.7
     ∙ ap (λ x. added (u ∷ []) x) (lexes_read turns u.to t.2 ts (smaller turns bs t.0 t.1 t.2 u.kind t.3 t.5.form h) t.8)
 
+-- the first breach of bytes is read
 pub stops_wrong : (turns at : ℕ) (bs : List ℕ) (n : ℕ) → length bs ≤ turns → Stops bs n → lexed turns at bs ≡ wrong n
 stops_wrong zero at bs zero h t = absurd (nothing t.1 t.4 (let l = ap length t.2 ∙ length-append t.0 t.1 in omega arith))
   where
@@ -226,7 +227,7 @@ stops_wrong zero at bs (suc n) h t = absurd (not_empty bs t.0 t.1 t.2 t.3 t.4 t.
 stops_wrong (suc turns) at bs zero h t =
     gap_turn turns at bs t.0 t.1 t.2 t.3 t.4
     ∙ rest_front (at + length t.0) t.1 (lexed turns) t.4
-    ∙ ap (λ f. on_front f (at + length t.0) t.1 (lexed turns)) (front_of_none t.1 t.5)
+    ∙ ap (λ f. on_scanned f (at + length t.0) t.1 (lexed turns)) (front_of_none t.1 t.5)
 stops_wrong (suc turns) at bs (suc n) h t =
     let from = at + length t.0 in
     let to = from + length t.1 in

@@ -4,27 +4,28 @@ use Rattle.std.specs.Prelude.{Result, Ok, Err}
 use Rattle.std.proofs.lemmas.List.{length-drop}
 use Rattle.mast_terms.specs.declared.memory.Stop.{Stop}
 use Rattle.mast_terms.specs.declared.memory.Stop.TheVariants.{Named, NoMemory}
+use Rattle.mast_source.specs.Bom.{bom_length}
 use Rattle.mast_sql.specs.declared.token.SqlToken.{SqlToken}
 use Rattle.mast_sql.specs.declared.token.SqlLex.{SqlLex}
-use Rattle.mast_sql.specs.Outcome.{Answers}
-use Rattle.mast_sql.specs.Source.{mark_of, AreTokens, IsLexBreach}
-use Rattle.mast_sql.specs.Lexed.{Lexed, read, wrong, reading}
+use Rattle.mast_terms.specs.Answers.{Answers}
+use Rattle.mast_sql.specs.Source.{AreTokens, IsLexBreach}
+use Rattle.mast_sql.specs.inside.Lexed.{Lexed, read, wrong, reading, ReadsAs, StopsAt}
 use Rattle.mast_sql.specs.Laws.{HasOneReading}
 use Rattle.mast_sql.proofs.SourceLemmas.{Told, lexed_told, lexes_read, stops_wrong}
 
-within : (text : List ℕ) → length (drop (mark_of text) text) ≤ length text
-within text = let l = length-drop (mark_of text) text in omega arith
+within : (text : List ℕ) → length (drop (bom_length text) text) ≤ length text
+within text = let l = length-drop (bom_length text) text in omega arith
 
-reading_told : (text : List ℕ) → Told (mark_of text) (drop (mark_of text) text) (reading text)
-reading_told text = lexed_told (length text) (mark_of text) (drop (mark_of text) text) (within text)
+reading_told : (text : List ℕ) → Told (bom_length text) (drop (bom_length text) text) (reading text)
+reading_told text = lexed_told (length text) (bom_length text) (drop (bom_length text) text) (within text)
 
 tokens_read : (text : List ℕ) (tokens : List SqlToken) → AreTokens text tokens → reading text ≡ read tokens
-tokens_read text tokens t = lexes_read (length text) (mark_of text) (drop (mark_of text) text) tokens (within text) t
+tokens_read text tokens t = lexes_read (length text) (bom_length text) (drop (bom_length text) text) tokens (within text) t
 
 stopped : (text : List ℕ) (breach : SqlLex) → IsLexBreach text breach → reading text ≡ wrong breach.token
-stopped text breach t = stops_wrong (length text) (mark_of text) (drop (mark_of text) text) breach.token (within text) t
+stopped text breach t = stops_wrong (length text) (bom_length text) (drop (bom_length text) text) breach.token (within text) t
 
-either_reading : (text : List ℕ) (l : Lexed) → Told (mark_of text) (drop (mark_of text) text) l → ((tokens : List SqlToken) × AreTokens text tokens) ⊎ ((breach : SqlLex) × IsLexBreach text breach)
+either_reading : (text : List ℕ) (l : Lexed) → Told (bom_length text) (drop (bom_length text) text) l → ((tokens : List SqlToken) × AreTokens text tokens) ⊎ ((breach : SqlLex) × IsLexBreach text breach)
 either_reading text (read ts) t = inl (ts, t)
 either_reading text (wrong n) t = inr (record { token = n }, t)
 
@@ -37,6 +38,7 @@ same_wrong a b h = let n : a.token ≡ b.token = cc in λ i. record { token = n 
 not_same : (a : List SqlToken) (n : ℕ) → ◌≡◌ {A = Lexed} (read a) (wrong n) → ⊥
 not_same a n h = cc
 
+-- a text has one token list or one first breach
 pub has_one_reading : (text : List ℕ) → HasOneReading text
 has_one_reading text = record {
   either = either_reading text (reading text) (reading_told text);
@@ -45,8 +47,16 @@ has_one_reading text = record {
   one_breach = λ a b t u. same_wrong a b (sym (stopped text a t) ∙ stopped text b u);
 }
 
+-- tokens that are read of a text are its tokens
+pub read_tokens : (text : List ℕ) (tokens : List SqlToken) → ReadsAs text tokens → AreTokens text tokens
+read_tokens text tokens h = subst (λ l. Told (bom_length text) (drop (bom_length text) text) l) h (reading_told text)
+
+-- and a breach that is read of it is its breach
+pub read_breach : (text : List ℕ) (breach : SqlLex) → StopsAt text breach → IsLexBreach text breach
+read_breach text breach h = subst (λ l. Told (bom_length text) (drop (bom_length text) text) l) h (reading_told text)
+
 -- what is read of a text is its tokens or its breach
-pub answered : (text : List ℕ) (r : Result (List SqlToken) (Stop SqlLex)) → Answers r (λ tokens. reading text ≡ read tokens) (λ breach. reading text ≡ wrong breach.token) → Answers r (AreTokens text) (IsLexBreach text)
-answered text (Ok tokens) h = subst (λ l. Told (mark_of text) (drop (mark_of text) text) l) h (reading_told text)
-answered text (Err (Named b)) h = subst (λ l. Told (mark_of text) (drop (mark_of text) text) l) h (reading_told text)
+pub answered : (text : List ℕ) (r : Result (List SqlToken) (Stop SqlLex)) → Answers r (ReadsAs text) (StopsAt text) → Answers r (AreTokens text) (IsLexBreach text)
+answered text (Ok tokens) h = read_tokens text tokens h
+answered text (Err (Named b)) h = read_breach text b h
 answered text (Err NoMemory) h = tt

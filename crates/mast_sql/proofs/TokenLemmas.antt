@@ -5,29 +5,30 @@ use Rattle.std.proofs.lemmas.Bool.Decides.{nat_tests}
 use Rattle.std.proofs.lemmas.Bool.{and_parts, cases_Bool}
 use Rattle.mast_sql.specs.declared.token.SqlKind.{SqlKind}
 use Rattle.mast_sql.specs.declared.token.SqlKind.TheVariants.{Word, Pname, Var, Iri, Integer, Quoted, Doubled, Sign}
-use Rattle.mast_sql.specs.declared.machine.State.{State}
-use Rattle.mast_sql.specs.declared.machine.State.TheVariants.{Start, Name, Colon, Mark, Less, Minus, Digits, Quote, Chars, Greater, Bang, Caret, End}
+use Rattle.mast_sql.specs.declared.scanner.ScanState.{ScanState}
+use Rattle.mast_sql.specs.declared.scanner.ScanState.TheVariants.{Start, Name, Colon, Sigil, Less, Minus, Digits, Quote, Chars, Greater, Bang, Caret, End}
 use Rattle.mast_sql.specs.Tokens.{is_alpha, is_digit, is_letter, is_word, is_single, is_end, are_digits, are_word, number, word, is_run, pname_rest, scheme_rest, iri_rest, quoted_rest, doubled_rest, is_sign, is_token}
-use Rattle.mast_sql.specs.Machine.{when, start, on_step, accepts}
-use Rattle.mast_sql.proofs.MachineLemmas.{is_byte, other_byte, colon_no_word, end_accepts, digits_accepts, minus_accepts, mark_accepts, colon_accepts, name_kind, name_accepts, quoted_accepts, doubled_accepts, less_kind, less_accepts, greater_accepts, bang_accepts, caret_accepts}
+use Rattle.mast_sql.specs.inside.Scanner.{when, start, on_step, accepts}
+use Rattle.mast_source.proofs.ByteLemmas.{is_byte, other_byte}
+use Rattle.mast_sql.proofs.ScannerLemmas.{colon_no_word, end_accepts, digits_accepts, minus_accepts, sigil_accepts, colon_accepts, name_kind, name_accepts, quoted_accepts, doubled_accepts, less_kind, less_accepts, greater_accepts, bang_accepts, caret_accepts}
 
 -- a first byte leads to a state, and what it accepts is what the state accepts of the rest
 
-forth : (b : ℕ) (w : List ℕ) (s : State) → start b ≡ Some s → accepts Start (b ∷ w) ≡ accepts s w
+forth : (b : ℕ) (w : List ℕ) (s : ScanState) → start b ≡ Some s → accepts Start (b ∷ w) ≡ accepts s w
 forth b w s e = ap (λ x. on_step x None (λ t. accepts t w)) e
 
-at_byte : (b n : ℕ) (s : State) → (b == n) ≡ true → start n ≡ Some s → start b ≡ Some s
+at_byte : (b n : ℕ) (s : ScanState) → (b == n) ≡ true → start n ≡ Some s → start b ≡ Some s
 at_byte b n s e h = subst (λ x. start x ≡ Some s) (sym (is_byte b n e)) h
 
 at_58 : start 58 ≡ Some Colon
 unfolding is_letter is_digit is_single
 at_58 = refl
 
-at_63 : start 63 ≡ Some Mark
+at_63 : start 63 ≡ Some Sigil
 unfolding is_letter is_digit is_single
 at_63 = refl
 
-at_36 : start 36 ≡ Some Mark
+at_36 : start 36 ≡ Some Sigil
 unfolding is_letter is_digit is_single
 at_36 = refl
 
@@ -113,10 +114,10 @@ iri_no_sign (c ∷ w) g =
     let p = and_parts (is_alpha c) (scheme_rest w) g in
     rw (other_byte is_alpha c 62 p.0 refl, other_byte is_alpha c 61 p.0 refl) refl
 
-mark_start : (b : ℕ) → (b == 63 || b == 36) ≡ true → start b ≡ Some Mark
+mark_start : (b : ℕ) → (b == 63 || b == 36) ≡ true → start b ≡ Some Sigil
 mark_start b e = elim (cases_Bool (b == 63)) [
-  | inl d ↦ at_byte b 63 Mark d at_63
-  | inr d ↦ at_byte b 36 Mark (rw d at e) at_36
+  | inl d ↦ at_byte b 63 Sigil d at_63
+  | inr d ↦ at_byte b 36 Sigil (rw d at e) at_36
 ]
 
 single_accepted : (b : ℕ) (w : List ℕ) → (b == 60) ≡ false → (b == 62) ≡ false → (b == 33) ≡ false → (b == 94) ≡ false → is_sign b w ≡ true → accepts Start (b ∷ w) ≡ Some Sign
@@ -127,6 +128,7 @@ single_accepted b [] e60 e62 e33 e94 h = forth b [] (End Sign) (single_start b (
     single false h = absurd (cc)
 single_accepted b (c ∷ w) e60 e62 e33 e94 h = absurd (let g : false ≡ true = rw (e60, e62, e33, e94) at h in cc)
 
+-- each token is accepted, with its kind
 pub token_accepted : (k : SqlKind) (w : List ℕ) → is_token k w ≡ true → accepts Start w ≡ Some k
 token_accepted k [] h = absurd (cc)
 token_accepted Word (b ∷ w) h =
@@ -141,7 +143,7 @@ token_accepted Pname (b ∷ w) h = elim (cases_Bool (b == 58)) [
 ]
 token_accepted Var (b ∷ w) h =
     let p = and_parts (b == 63 || b == 36) (word w) h in
-    forth b w Mark (mark_start b p.0) ∙ mark_accepts w ∙ ap (λ x. when x Var) p.1
+    forth b w Sigil (mark_start b p.0) ∙ sigil_accepts w ∙ ap (λ x. when x Var) p.1
 token_accepted Iri (b ∷ w) h =
     let p = and_parts (b == 60) (iri_rest w) h in
     forth b w Less (at_byte b 60 Less p.0 at_60) ∙ less_accepts w ∙ ap (λ x. less_kind x (iri_rest w)) (iri_no_sign w p.1) ∙ ap (λ x. when x Iri) p.1
@@ -187,7 +189,7 @@ less_some true y k h = inl (refl, cc)
 less_some false y k h = inr (when_some y Iri k h)
 
 -- from the state that a first byte leads to
-behind : (b : ℕ) (w : List ℕ) (s : State) (k : SqlKind) (o : Option SqlKind) → start b ≡ Some s → accepts s w ≡ o → accepts Start (b ∷ w) ≡ Some k → o ≡ Some k
+behind : (b : ℕ) (w : List ℕ) (s : ScanState) (k : SqlKind) (o : Option SqlKind) → start b ≡ Some s → accepts s w ≡ o → accepts Start (b ∷ w) ≡ Some k → o ≡ Some k
 behind b w s k o e a h = sym a ∙ sym (forth b w s e) ∙ h
 
 has_form : (j k : SqlKind) (w : List ℕ) → j ≡ k → is_token j w ≡ true → is_token k w ≡ true
@@ -206,7 +208,7 @@ less_form k b w e h = elim (less_some (is_sign 60 w) (iri_rest w) k (behind b w 
 ]
 
 -- a state that accepts tokens of one kind alone
-alone : (j k : SqlKind) (b : ℕ) (w : List ℕ) (s : State) (t : Bool) → start b ≡ Some s → accepts s w ≡ when t j → accepts Start (b ∷ w) ≡ Some k → (t ≡ true → is_token j (b ∷ w) ≡ true) → is_token k (b ∷ w) ≡ true
+alone : (j k : SqlKind) (b : ℕ) (w : List ℕ) (s : ScanState) (t : Bool) → start b ≡ Some s → accepts s w ≡ when t j → accepts Start (b ∷ w) ≡ Some k → (t ≡ true → is_token j (b ∷ w) ≡ true) → is_token k (b ∷ w) ≡ true
 alone j k b w s t e a h f = let r = when_some t j k (behind b w s k (when t j) e a h) in has_form j k (b ∷ w) r.1 (f r.0)
 
 single_form : (b : ℕ) (w : List ℕ) → is_single b ≡ true → is_end w ≡ true → is_sign b w ≡ true
@@ -216,6 +218,7 @@ single_form b (c ∷ w) e h = absurd (cc)
 sign_at : (n b : ℕ) (w : List ℕ) → (b == n) ≡ true → is_sign n w ≡ true → is_token Sign (b ∷ w) ≡ true
 sign_at n b w e h = subst (λ x. is_sign x w ≡ true) (sym (is_byte b n e)) h
 
+-- what is accepted is a token of that kind
 pub accepted_token : (k : SqlKind) (w : List ℕ) → accepts Start w ≡ Some k → is_token k w ≡ true
 accepted_token k [] h = absurd (cc)
 accepted_token k (b ∷ w) h = elim (cases_Bool (is_letter b)) [
@@ -227,7 +230,7 @@ accepted_token k (b ∷ w) h = elim (cases_Bool (is_letter b)) [
       | inr es ↦ elim (cases_Bool (b == 58)) [
         | inl e ↦ alone Pname k b w Colon (is_run w) (at_byte b 58 Colon e at_58) (colon_accepts w) h (λ t. rw e t)
         | inr e58 ↦ elim (cases_Bool (b == 63 || b == 36)) [
-          | inl e ↦ alone Var k b w Mark (word w) (rw (el, ed, es, e58, e) refl) (mark_accepts w) h (λ t. rw e t)
+          | inl e ↦ alone Var k b w Sigil (word w) (rw (el, ed, es, e58, e) refl) (sigil_accepts w) h (λ t. rw e t)
           | inr em ↦ elim (cases_Bool (b == 60)) [
             | inl e ↦ less_form k b w e h
             | inr e60 ↦ elim (cases_Bool (b == 62)) [

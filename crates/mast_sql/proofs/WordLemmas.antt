@@ -1,49 +1,20 @@
 -- What the tokens of a text stand for: there is one symbol for each.
-use Rattle.std.proofs.Common.{◌≡◌, ◌⊎◌, inl, inr, ℕ, zero, suc, ◌+◌, ◌-◌, ◌<◌, ◌≤◌, ◌==◌, Bool, true, false, List, ◌∷◌, [], ◌++◌, length, take, drop, get_or, refl, ap, sym, ◌∙◌, subst, arith, append_assoc}
-use Rattle.std.specs.Prelude.{Result, Ok, Err, IfOk, slice_index}
-use Rattle.std.specs.Str.{IsUtf8, IsAscii}
-use Rattle.std.proofs.lemmas.Str.{IsUtf8-append, IsUtf8-nil, IsUtf8-from_ascii, IsUtf8-take, IsUtf8-drop, IsCharBoundary-after_ascii, IsCharBoundary-before_ascii}
-use Rattle.std.proofs.lemmas.List.{length-append, take-append-drop}
+use Rattle.std.proofs.Common.{◌≡◌, ◌⊎◌, inl, inr, ℕ, ◌-◌, ◌<◌, ◌==◌, Bool, true, false, List, ◌∷◌, [], ◌++◌, take, drop, refl, ap, sym, ◌∙◌, subst, arith, append_assoc}
+use Rattle.std.specs.Prelude.{Result, Ok, Err, IfOk}
+use Rattle.std.specs.Str.{IsUtf8}
+use Rattle.std.proofs.lemmas.Str.{IsUtf8-append, IsUtf8-nil}
+use Rattle.std.proofs.lemmas.List.{take-append-drop}
 use Rattle.std.proofs.lemmas.Bool.{and_parts, cases_Bool}
 use Rattle.std.proofs.lemmas.Bool.Decides.{nat_tests}
-use Rattle.std.proofs.Math.Seq.{take-append_seam, drop-append-add}
+use Rattle.mast_source.proofs.ByteLemmas.{is_byte}
+use Rattle.mast_source.proofs.SliceLemmas.{inside_of}
+use Rattle.mast_source.proofs.Utf8Lemmas.{after_ascii, before_ascii, ascii_one}
 use Rattle.mast_sql.specs.declared.token.SqlKind.TheVariants as kind
 use Rattle.mast_sql.specs.declared.token.SqlToken.{SqlToken}
 use Rattle.mast_sql.specs.declared.symbol.Symbol.{Symbol}
 use Rattle.mast_sql.specs.Tokens.{is_token, is_letter, is_word, are_word, quoted_rest}
-use Rattle.mast_sql.specs.Symbols.{span, IsPlaced, keyword_of, word, doubled, undoubled, inside, unquoted, IsQuoted, IsSymbol}
-use Rattle.mast_sql.proofs.MachineLemmas.{is_byte}
-
--- texts before and behind an ASCII byte
-
-get_seam : (a b : List ℕ) (c : ℕ) → get_or (a ++ (c ∷ b)) (length a) 0 ≡ c
-get_seam [] b c = refl
-get_seam (x ∷ a) b c = get_seam a b c
-
-seam_size : (a b : List ℕ) (c : ℕ) → length a < length (a ++ (c ∷ b))
-seam_size a b c = let l = length-append a (c ∷ b) in omega arith
-
-after_ascii : (a b : List ℕ) (c : ℕ) → c < 128 → IsUtf8 (a ++ (c ∷ b)) → IsUtf8 b
-after_ascii a b c l u =
-    let small : get_or (a ++ (c ∷ b)) (length a) 0 < 128 = subst (λ x. x < 128) (sym (get_seam a b c)) l in
-    let boundary = IsCharBoundary-after_ascii (a ++ (c ∷ b)) (length a) u (seam_size a b c) small in
-    subst IsUtf8 (drop-append-add a (c ∷ b) 1) (IsUtf8-drop (a ++ (c ∷ b)) (length a + 1) u boundary)
-
-before_ascii : (a b : List ℕ) (c : ℕ) → c < 128 → IsUtf8 (a ++ (c ∷ b)) → IsUtf8 a
-before_ascii a b c l u =
-    let small : get_or (a ++ (c ∷ b)) (length a) 0 < 128 = subst (λ x. x < 128) (sym (get_seam a b c)) l in
-    let boundary = IsCharBoundary-before_ascii (a ++ (c ∷ b)) (length a) (seam_size a b c) small in
-    subst IsUtf8 (take-append_seam a (c ∷ b)) (IsUtf8-take (a ++ (c ∷ b)) (length a) u boundary)
-
-ascii_one : (c : ℕ) → c < 128 → IsUtf8 (c ∷ [])
-ascii_one c l = IsUtf8-from_ascii (c ∷ []) (small c l)
-  where
-    small : (c : ℕ) → c < 128 → IsAscii (c ∷ [])
-    small c l zero = l
-    small c l (suc i) = past i
-      where
-        past : (i : ℕ) → slice_index (c ∷ []) (suc i) < 128
-        past i = omega arith
+use Rattle.mast_sql.specs.Symbols.{span, IsPlaced, keyword_of, word, doubled, single_quoted, IsQuoted, IsSymbol}
+use Rattle.mast_sql.specs.inside.Quotes.{undoubled, unquoted}
 
 -- words are ASCII
 
@@ -93,18 +64,13 @@ quoted_inside (b ∷ w) false h = go (b == 39) refl (quoted_inside w (b == 39) h
     go true s (inr t) = (39 ∷ t.0, ap (λ x. x ∷ w) (is_byte b 39 s) ∙ ap (λ x. 39 ∷ x) t.1)
     go false s t = (b ∷ t.0, ap (λ x. b ∷ x) t.1 ∙ ap (λ x. x ++ (39 ∷ [])) (sym (doubled_plain b t.0 s)))
 
-pub quoted_form : (w : List ℕ) → is_token kind.Quoted w ≡ true → (x : List ℕ) × (w ≡ 39 ∷ (doubled x ++ (39 ∷ [])))
+-- what has the form of a text in single quotes is one
+pub quoted_form : (w : List ℕ) → is_token kind.Quoted w ≡ true → (x : List ℕ) × (w ≡ single_quoted x)
 quoted_form [] h = absurd (cc)
 quoted_form (b ∷ w) h =
     let p = and_parts (b == 39) (quoted_rest false w) h in
     let t = quoted_inside w false p.1 in
     (t.0, ap (λ x. x ∷ w) (is_byte b 39 p.0) ∙ ap (λ x. 39 ∷ x) t.1)
-
-inside_of : (a b : ℕ) (x : List ℕ) → inside (a ∷ (x ++ (b ∷ []))) ≡ x
-inside_of a b x =
-    let l = length-append x (b ∷ []) in
-    let size : length (a ∷ (x ++ (b ∷ []))) - 2 ≡ length x = omega arith in
-    ap (λ n. take n (x ++ (b ∷ []))) size ∙ take-append_seam x (b ∷ [])
 
 undoubled_of : (x : List ℕ) → undoubled false (doubled x) ≡ x
 undoubled_of [] = refl
@@ -113,7 +79,8 @@ undoubled_of (b ∷ x) = elim (cases_Bool (b == 39)) [
   | inr e ↦ rw (e, e) (ap (λ y. b ∷ y) (undoubled_of x))
 ]
 
-pub unquoted_of : (w x : List ℕ) → w ≡ 39 ∷ (doubled x ++ (39 ∷ [])) → unquoted w ≡ x
+-- and it is one of one text alone
+pub unquoted_of : (w x : List ℕ) → w ≡ single_quoted x → unquoted w ≡ x
 unquoted_of w x e = ap unquoted e ∙ ap (λ y. undoubled false y) (inside_of 39 39 (doubled x)) ∙ undoubled_of x
 
 -- dropping second quotes keeps a text one
@@ -145,25 +112,22 @@ quoted_text text t u h =
     let chars : IsUtf8 (doubled f.0) = before_ascii (doubled f.0) more 39 (omega arith) behind in
     subst IsUtf8 (sym (unquoted_of (span text t) f.0 f.1)) (undoubled_text [] f.0 chars)
 
--- the symbol of a token, as the calls give it
-
-pub word_symbol : (text bytes : List ℕ) (t : SqlToken) (s : Symbol) → t.kind ≡ kind.Word → (t.from ≤ t.to → t.to ≤ length text → bytes ≡ span text t) → (IsUtf8 bytes → s ≡ word (keyword_of bytes) bytes) → IsPlaced text t → IsSymbol t.kind (span text t) s
-word_symbol text bytes t s k b h p =
-    let order = p.order in
-    let e : bytes ≡ span text t = b (omega arith) p.within in
+-- the symbol of a word, as the call gives it
+pub word_symbol : (text bytes : List ℕ) (t : SqlToken) (s : Symbol) → t.kind ≡ kind.Word → bytes ≡ span text t → (IsUtf8 bytes → s ≡ word (keyword_of bytes) bytes) → IsPlaced text t → IsSymbol t.kind (span text t) s
+word_symbol text bytes t s k e h p =
     let form : is_token kind.Word (span text t) ≡ true = subst (λ x. is_token x (span text t) ≡ true) k p.form in
     let is : s ≡ word (keyword_of bytes) bytes = h (subst IsUtf8 (sym e) (word_text (span text t) form)) in
     subst (λ x. IsSymbol x (span text t) s) (sym k) (is ∙ ap (λ x. word (keyword_of x) x) e)
 
-pub quoted_symbol : (text bytes : List ℕ) (t : SqlToken) (s : Symbol) → t.kind ≡ kind.Quoted → (t.from ≤ t.to → t.to ≤ length text → bytes ≡ span text t) → (IsUtf8 (unquoted bytes) → IsQuoted (unquoted bytes) s) → IsUtf8 text → IsPlaced text t → IsSymbol t.kind (span text t) s
-quoted_symbol text bytes t s k b h u p =
-    let order = p.order in
-    let e : bytes ≡ span text t = b (omega arith) p.within in
+-- the symbol of a text in quotes, as the call gives it
+pub quoted_symbol : (text bytes : List ℕ) (t : SqlToken) (s : Symbol) → t.kind ≡ kind.Quoted → bytes ≡ span text t → (IsUtf8 (unquoted bytes) → IsQuoted (unquoted bytes) s) → IsUtf8 text → IsPlaced text t → IsSymbol t.kind (span text t) s
+quoted_symbol text bytes t s k e h u p =
     let form : is_token kind.Quoted (span text t) ≡ true = subst (λ x. is_token x (span text t) ≡ true) k p.form in
     let f = quoted_form (span text t) form in
     let is : IsQuoted (unquoted bytes) s = h (subst (λ x. IsUtf8 (unquoted x)) (sym e) (quoted_text text t u form)) in
     subst (λ x. IsSymbol x (span text t) s) (sym k) (f.0, f.1, subst (λ x. IsQuoted x s) (ap unquoted e ∙ unquoted_of (span text t) f.0 f.1) is)
 
+-- what is so of each value is so of an answer
 pub if_ok_each : {T E : Type 0} {P Q : T → Type 0} (r : Result T E) → ((x : T) → P x → Q x) → IfOk r P → IfOk r Q
 if_ok_each (Ok x) f p = f x p
 if_ok_each (Err e) f p = tt

@@ -1,9 +1,7 @@
 pub mod Grammar
 pub mod Laws
-pub mod Lexed
-pub mod Machine
-pub mod Outcome
-pub mod Places
+pub mod Signs
 pub mod Source
 pub mod Symbols
 pub mod Tokens
+pub mod inside

@@ -1,6 +1,8 @@
 -- What tokens stand for in the grammar.
-use Rattle.std.specs.Prelude.{◌≡◌, ℕ, ℤ, ◌-◌, ◌<◌, ◌≤◌, ◌==◌, ◌&&◌, Bool, true, false, if◌then◌else◌, List, [], ◌∷◌, ◌++◌, length, take, drop, Option, Some, None, codes}
-use Rattle.std.specs.Str.{str_eq_ignore_ascii_case}
+use Rattle.std.specs.Prelude.{◌≡◌, ℕ, ℤ, ◌<◌, ◌≤◌, ◌==◌, ◌&&◌, true, if◌then◌else◌, List, [], ◌∷◌, ◌++◌, length, Option, Some, None, codes}
+use Rattle.std.specs.Str.{IsUtf8, str_eq_ignore_ascii_case}
+use Rattle.mast_source.specs.Bytes.{exclamation, single_quote, comma, dot, less, equals, greater}
+use Rattle.mast_source.specs.Slices.{between}
 use Rattle.mast_terms.specs.IntegerCell.{integer_of}
 use Rattle.mast_terms.specs.DateCell.{IsDateText}
 use Rattle.mast_terms.specs.Printed.{date_text}
@@ -17,7 +19,7 @@ use Rattle.mast_sql.specs.Tokens.{is_token}
 
 -- the bytes of a token
 abbrev pub span : List ℕ → SqlToken → List ℕ
-span text t = take (t.to - t.from) (drop t.from text)
+span text t = between text t.from t.to
 
 -- the token is a slice of the text and has the form of its kind
 pub record IsPlaced (text : List ℕ) (t : SqlToken) : Type 0 where
@@ -56,6 +58,7 @@ keyword key.And = And
 keyword key.Date = DateWord
 keyword _ = Other
 
+-- a word is a keyword or a name
 abbrev pub word : Option AKeyword → List ℕ → Symbol
 word None bytes = Name bytes
 word (Some k) bytes = keyword k
@@ -65,15 +68,18 @@ abbrev pub integer : Option ℤ → Symbol
 integer None = Other
 integer (Some number) = Integer number
 
+-- a sign of one byte
 abbrev pub one_sign : ℕ → Symbol
 one_sign b =
-    if b == 44 then Comma else if b == 46 then Dot else if b == 61 then Compare op.Equal
-    else if b == 60 then Compare op.Less else if b == 62 then Compare op.More else Other
+    if b == comma then Comma else if b == dot then Dot else if b == equals then Compare op.Equal
+    else if b == less then Compare op.Less else if b == greater then Compare op.More else Other
 
+-- a sign of two bytes; `!=` is `<>`
 abbrev pub two_signs : ℕ → ℕ → Symbol
 two_signs b c =
-    if b == 60 && c == 62 then Compare op.Differ else if b == 33 && c == 61 then Compare op.Differ
-    else if b == 60 && c == 61 then Compare op.AtMost else if b == 62 && c == 61 then Compare op.AtLeast else Other
+    if b == less && c == greater then Compare op.Differ else if b == exclamation && c == equals then Compare op.Differ
+    else if b == less && c == equals then Compare op.AtMost else if b == greater && c == equals then Compare op.AtLeast
+    else Other
 
 -- `,` `.` and the signs of comparison
 abbrev pub sign : List ℕ → Symbol
@@ -85,25 +91,18 @@ sign (b ∷ c ∷ d ∷ bs) = Other
 -- a text with each single quote doubled
 abbrev pub doubled : List ℕ → List ℕ
 doubled [] = []
-doubled (b ∷ bs) = if b == 39 then 39 ∷ (39 ∷ doubled bs) else b ∷ doubled bs
+doubled (b ∷ bs) = if b == single_quote then single_quote ∷ (single_quote ∷ doubled bs) else b ∷ doubled bs
 
--- without the first and the last byte, and with one quote for two; the Bool says whether a first quote stands before
-abbrev pub inside : List ℕ → List ℕ
-inside bytes = take (length bytes - 2) (drop 1 bytes)
-
-abbrev pub undoubled : Bool → List ℕ → List ℕ
-undoubled quote [] = []
-undoubled true (b ∷ bs) = undoubled false bs
-undoubled false (b ∷ bs) = b ∷ undoubled (b == 39) bs
-
-abbrev pub unquoted : List ℕ → List ℕ
-unquoted bytes = undoubled false (inside bytes)
+-- a text in single quotes
+abbrev pub single_quoted : List ℕ → List ℕ
+single_quoted text = single_quote ∷ (doubled text ++ (single_quote ∷ []))
 
 -- the date that a text is, if it is one
 abbrev pub IsDateOf : List ℕ → Option Date → Type 0
 IsDateOf text None = IsDateText text → ⊥
 IsDateOf text (Some date) = text ≡ date_text date
 
+-- a text in single quotes, which tells whether it is a date
 abbrev pub IsQuoted : List ℕ → Symbol → Type 0
 IsQuoted text symbol = (date : Option Date) × IsDateOf text date × (symbol ≡ Quoted text date)
 
@@ -111,9 +110,13 @@ IsQuoted text symbol = (date : Option Date) × IsDateOf text date × (symbol ≡
 abbrev pub IsSymbol : SqlKind → List ℕ → Symbol → Type 0
 IsSymbol kind.Word bytes symbol = symbol ≡ word (keyword_of bytes) bytes
 IsSymbol kind.Integer bytes symbol = symbol ≡ integer (integer_of bytes)
-IsSymbol kind.Quoted bytes symbol = (text : List ℕ) × (bytes ≡ 39 ∷ (doubled text ++ (39 ∷ []))) × IsQuoted text symbol
+IsSymbol kind.Quoted bytes symbol = (text : List ℕ) × (bytes ≡ single_quoted text) × IsQuoted text symbol
 IsSymbol kind.Sign bytes symbol = symbol ≡ sign bytes
 IsSymbol _ bytes symbol = symbol ≡ Other
+
+-- what a token of a text stands for, where it is one
+abbrev pub StandsFor : List ℕ → SqlToken → Symbol → Type 0
+StandsFor text t symbol = IsUtf8 text → IsPlaced text t → IsSymbol t.kind (span text t) symbol
 
 -- what the tokens of a text stand for
 abbrev pub AreSymbols : List ℕ → List SqlToken → List Symbol → Type 0

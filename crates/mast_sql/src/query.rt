@@ -1,11 +1,15 @@
 //! Source queries.
 ghost use Rattle.std.specs.Prelude.{◌≡◌, OnOk};
-ghost use Rattle.mast_sql.specs.Places as places;
+ghost use Rattle.mast_sql.specs.inside.Parser as parser;
 
 use mast_terms::{List, NoMemory, Text, Value};
 use std::alloc::Global;
 
-/// A query that chooses a row for each of its aliases. An alias or an output that the text does not name is the table's or the column's name.
+/// How many entries FROM may have.
+pub const MOST_ENTRIES: usize = 8;
+
+/// A query that chooses a row for each of its aliases.
+/// An alias or an output that the text does not name is the table's or the column's name.
 #[derive(Debug, Drop)]
 pub struct SourceQuery {
     pub items: List<SelectItem>,
@@ -63,7 +67,8 @@ pub enum SqlBreachKind {
     Aliases,
 }
 
-/// The first breach of the grammar: the number of its token, from 0, and the kind. At the end it is the number of tokens.
+/// The first breach of the grammar: the number of its token, from 0, and the kind.
+/// At the end it is the number of tokens.
 #[derive(Clone, Copy, Debug, PartialEq, Eq)]
 pub struct SqlBreach {
     pub token: u32,
@@ -72,7 +77,7 @@ pub struct SqlBreach {
 
 impl SourceQuery {
     pub(crate) fn new(alloc: Global) -> SourceQuery
-        ensures { result ≡ places.empty }
+        ensures { result ≡ parser.empty }
     {
         SourceQuery {
             items: List::new(alloc),
@@ -81,45 +86,25 @@ impl SourceQuery {
         }
     }
 
-    pub(crate) fn push_item(
-        &mut self,
-        alloc: Global,
-        alias: Option<Text>,
-        column: Text,
-        output: Text,
-    ) -> Result<(), NoMemory>
-        ensures { OnOk result (self.new ≡ places.with_item self.old (record { alias = alias; column = column; output = output })) }
+    pub(crate) fn push_item(&mut self, alloc: Global, item: SelectItem) -> Result<(), NoMemory>
+        ensures { OnOk result (self.new ≡ parser.with_item self.old item) }
     {
-        self.items.push(
-            alloc,
-            SelectItem {
-                alias,
-                column,
-                output,
-            },
-        )
+        self.items.push(alloc, item)
     }
 
-    pub(crate) fn push_entry(
-        &mut self,
-        alloc: Global,
-        table: Text,
-        alias: Text,
-    ) -> Result<(), NoMemory>
-        ensures { OnOk result (self.new ≡ places.with_entry self.old (record { table = table; alias = alias })) }
+    pub(crate) fn push_entry(&mut self, alloc: Global, entry: FromEntry) -> Result<(), NoMemory>
+        ensures { OnOk result (self.new ≡ parser.with_entry self.old entry) }
     {
-        self.from.push(alloc, FromEntry { table, alias })
+        self.from.push(alloc, entry)
     }
 
     pub(crate) fn push_condition(
         &mut self,
         alloc: Global,
-        left: Operand,
-        op: Compare,
-        right: Operand,
+        comparison: Comparison,
     ) -> Result<(), NoMemory>
-        ensures { OnOk result (self.new ≡ places.with_condition self.old (record { left = left; op = op; right = right })) }
+        ensures { OnOk result (self.new ≡ parser.with_condition self.old comparison) }
     {
-        self.conditions.push(alloc, Comparison { left, op, right })
+        self.conditions.push(alloc, comparison)
     }
 }

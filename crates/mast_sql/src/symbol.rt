@@ -1,11 +1,14 @@
 //! What tokens stand for in the grammar: keywords, names, constants and signs.
-ghost use Rattle.std.specs.Prelude.{◌≡◌, ◌≤◌, ◌-◌, take, drop, length, false, IfOk, ℕ, List, ◌∷◌, ◌++◌};
+ghost use Rattle.std.specs.Prelude.{◌≡◌, false, IfOk};
 ghost use Rattle.std.specs.Str.{IsUtf8, str_eq_ignore_ascii_case};
+ghost use Rattle.mast_sql.specs.inside.Quotes as quotes;
+ghost use Rattle.mast_sql.specs.inside.Quotes.{GoesOn, QuotedStands, WordStands};
 ghost use Rattle.mast_sql.specs.Symbols as symbols;
-ghost use Rattle.mast_sql.specs.Symbols.{IsSymbol, IsPlaced, span, IsDateOf};
+ghost use Rattle.mast_sql.specs.Symbols.{IsDateOf, StandsFor};
 ghost use Rattle.mast_terms.specs.IntegerCell.{integer_of};
 
 use crate::{Compare, SqlKind, SqlToken};
+use mast_source::{as_text, between, inside, into_text};
 use mast_terms::{Date, NoMemory, Text, read_date, read_int};
 use std::alloc::Global;
 
@@ -49,7 +52,7 @@ pub enum Symbol {
     Other,
 }
 
-/// The words are equal but for the case of ASCII letters.
+// The words are equal but for the case of ASCII letters.
 fn is_same(word: &[u8], keyword: &str) -> bool
     ensures { result ≡ str_eq_ignore_ascii_case keyword.now word.now }
 {
@@ -148,26 +151,6 @@ fn integer(bytes: &[u8]) -> Symbol
     }
 }
 
-/// The bytes as a text; nothing where they are none.
-fn as_text(bytes: &[u8]) -> &str
-    ensures { IsUtf8 bytes.now → result.now ≡ bytes.now }
-{
-    match str::from_utf8(bytes) {
-        Ok(text) => text,
-        Err(_) => "",
-    }
-}
-
-/// The bytes as a text; nothing where they are none.
-fn into_text(alloc: Global, bytes: Vec<u8>) -> Result<Text, NoMemory>
-    ensures { IfOk result (λ text. IsUtf8 bytes.items → text ≡ bytes.items) }
-{
-    match String::from_utf8(bytes) {
-        Ok(text) => Text::from_string(alloc, text),
-        Err(_) => Text::from_str(alloc, ""),
-    }
-}
-
 fn keyword_symbol(keyword: Keyword) -> Symbol
     ensures { result ≡ symbols.keyword keyword }
 {
@@ -184,7 +167,7 @@ fn keyword_symbol(keyword: Keyword) -> Symbol
 }
 
 fn word(alloc: Global, bytes: &[u8]) -> Result<Symbol, NoMemory>
-    ensures { IfOk result (λ symbol. IsUtf8 bytes.now → symbol ≡ symbols.word (symbols.keyword_of bytes.now) bytes.now) }
+    ensures { IfOk result (WordStands bytes.now) }
 {
     match keyword_of(bytes) {
         Some(found) => Ok(keyword_symbol(found)),
@@ -192,20 +175,9 @@ fn word(alloc: Global, bytes: &[u8]) -> Result<Symbol, NoMemory>
     }
 }
 
-/// The bytes without the first and the last.
-fn inside(bytes: &[u8]) -> &[u8]
-    ensures { result.now ≡ symbols.inside bytes.now }
-{
-    if bytes.len() < 2 {
-        &[]
-    } else {
-        &bytes[1..bytes.len() - 1]
-    }
-}
-
-/// Puts a byte behind a text, but for a quote behind a quote, and tells whether it is a first quote.
+// Puts a byte behind a text, but for a quote behind a quote, and tells whether it is a first quote.
 fn put(text: &mut Vec<u8>, quote: bool, b: u8) -> Result<bool, NoMemory>
-    ensures { IfOk result (λ next. (rest : List ℕ) → text.new.items ++ symbols.undoubled next rest ≡ text.old.items ++ symbols.undoubled quote (b ∷ rest)) }
+    ensures { IfOk result (GoesOn text.old.items quote b text.new.items) }
 {
     if quote {
         Ok(false)
@@ -215,9 +187,9 @@ fn put(text: &mut Vec<u8>, quote: bool, b: u8) -> Result<bool, NoMemory>
     }
 }
 
-/// The bytes, where of two quotes the second is dropped.
+// The bytes, where of two quotes the second is dropped.
 fn undoubled(alloc: Global, bytes: &[u8]) -> Result<Vec<u8>, NoMemory>
-    ensures { IfOk result (λ text. text.items ≡ symbols.undoubled false bytes.now) }
+    ensures { IfOk result (λ text. text.items ≡ quotes.undoubled false bytes.now) }
 {
     let mut text = Vec::with_capacity(alloc, bytes.len())?;
     let mut quote = false;
@@ -227,7 +199,7 @@ fn undoubled(alloc: Global, bytes: &[u8]) -> Result<Vec<u8>, NoMemory>
     Ok(text)
 }
 
-/// The date that a text is, if it is one.
+// The date that a text is, if it is one.
 fn date_of(text: &[u8]) -> Option<Date>
     ensures { IsDateOf text.now result }
 {
@@ -237,28 +209,24 @@ fn date_of(text: &[u8]) -> Option<Date>
     }
 }
 
-fn quoted(alloc: Global, bytes: &[u8]) -> Result<Symbol, NoMemory>
-    ensures { IfOk result (λ symbol. IsUtf8 (symbols.unquoted bytes.now) → symbols.IsQuoted (symbols.unquoted bytes.now) symbol) }
+// The bytes as a text; the empty one where they are none.
+fn text_of(alloc: Global, bytes: Vec<u8>) -> Result<Text, NoMemory>
+    ensures { IfOk result (λ text. IsUtf8 bytes.items → text ≡ bytes.items) }
 {
-    let text = into_text(alloc, undoubled(alloc, inside(bytes))?)?;
+    Text::from_string(alloc, into_text(alloc, bytes))
+}
+
+fn quoted(alloc: Global, bytes: &[u8]) -> Result<Symbol, NoMemory>
+    ensures { IfOk result (QuotedStands bytes.now) }
+{
+    let text = text_of(alloc, undoubled(alloc, inside(bytes))?)?;
     let date = date_of(text.as_str().as_bytes());
     Ok(Symbol::Quoted(text, date))
 }
 
-/// The bytes from one place to another; none where they are no places in order.
-fn between(bytes: &[u8], from: usize, to: usize) -> &[u8]
-    ensures { from ≤ to → to ≤ length bytes.now → result.now ≡ take (to - from) (drop from bytes.now) }
-{
-    if from <= to && to <= bytes.len() {
-        &bytes[from..to]
-    } else {
-        &[]
-    }
-}
-
 /// What a token of the text stands for.
 pub fn symbol_of(alloc: Global, text: &[u8], token: SqlToken) -> Result<Symbol, NoMemory>
-    ensures { IfOk result (λ symbol. IsUtf8 text.now → IsPlaced text.now token → IsSymbol token.kind (span text.now token) symbol) }
+    ensures { IfOk result (StandsFor text.now token) }
 {
     let bytes = between(text, token.from as usize, token.to as usize);
     match token.kind {

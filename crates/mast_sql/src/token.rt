@@ -1,6 +1,7 @@
 //! Tokens, and where none stands.
 
-/// What a token is: a word, a prefixed name, a variable, an IRI in brackets, an integer, a text in single or in double quotes, or a sign.
+/// What a token is: a word, a prefixed name, a variable, an IRI in brackets, an integer, a text in single or in double
+/// quotes, or a sign.
 #[derive(Clone, Copy, Debug, PartialEq, Eq)]
 pub enum SqlKind {
     Word,

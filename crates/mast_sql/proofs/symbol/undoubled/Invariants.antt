@@ -1,5 +1,5 @@
 use Rattle.std.proofs.Common.{◌≡◌, ◌++◌, drop, false}
-use Rattle.mast_sql.specs.Symbols.{undoubled}
+use Rattle.mast_sql.specs.inside.Quotes.{undoubled}
 use Rattle.mast_sql.proofs.symbol.undoubled.Given as goal
 
 abbrev pub invariant-loop-b : goal.invariant-loop-b

@@ -1,14 +1,14 @@
-//! A machine over bytes that finds the longest token at a front, and how far blanks and comments go.
+//! The scanner: an automaton over bytes that finds the longest token at their front, and how far blanks and comments go.
 ghost use Rattle.std.specs.Prelude.{◌≡◌, ◌<◌, ◌≤◌, None, length, IfSome, true};
-ghost use Rattle.mast_sql.specs.Machine as machine;
-ghost use Rattle.mast_sql.specs.Machine.{FrontWithin};
+ghost use Rattle.mast_sql.specs.inside.Scanner as scanner;
+ghost use Rattle.mast_sql.specs.inside.Scanner.{ScannedWithin};
 ghost use Rattle.mast_sql.specs.Tokens as tokens;
 
 use crate::SqlKind;
 
 /// What was read of a token so far.
 #[derive(Clone, Copy)]
-pub enum State {
+pub enum ScanState {
     Start,
     /// A word, which a colon would make the front of a Pname.
     Name,
@@ -19,7 +19,7 @@ pub enum State {
     /// A dot inside a Pname's run.
     Dot,
     /// The `?` or `$` of a variable.
-    Mark,
+    Sigil,
     Variable,
     /// `<`, which may begin an IRI.
     Less,
@@ -43,9 +43,9 @@ pub enum State {
     End(SqlKind),
 }
 
-/// A token at the front of bytes, and how many it takes.
+/// A token that comes first, and how many bytes it takes.
 #[derive(Clone, Copy)]
-pub struct Front {
+pub struct Scanned {
     pub kind: SqlKind,
     pub size: usize,
 }
@@ -73,7 +73,7 @@ fn is_digit(b: u8) -> bool
     b'0' <= b && b <= b'9'
 }
 
-/// What a word begins with: a letter or `_`.
+// What a word begins with: a letter or `_`.
 #[tactic(auto, unfolding(crate::specs::Tokens::is_letter))]
 fn is_letter(b: u8) -> bool
     ensures { result ≡ tokens.is_letter b }
@@ -81,7 +81,7 @@ fn is_letter(b: u8) -> bool
     (b'a' <= b && b <= b'z') || (b'A' <= b && b <= b'Z') || b == b'_'
 }
 
-/// Letters, digits and `_`.
+// Letters, digits and `_`.
 #[tactic(auto, unfolding(crate::specs::Tokens::is_word))]
 fn is_word(b: u8) -> bool
     ensures { result ≡ tokens.is_word b }
@@ -89,7 +89,7 @@ fn is_word(b: u8) -> bool
     (b'a' <= b && b <= b'z') || (b'A' <= b && b <= b'Z') || (b'0' <= b && b <= b'9') || b == b'_'
 }
 
-/// What a Pname's run is made of, but for dots. Bytes from 128 on are those of characters from U+0080 on.
+// What a Pname's run is made of, but for dots. Bytes from 128 on are those of characters from U+0080 on.
 #[tactic(auto, unfolding(crate::specs::Tokens::is_local))]
 fn is_local(b: u8) -> bool
     ensures { result ≡ tokens.is_local b }
@@ -102,7 +102,7 @@ fn is_local(b: u8) -> bool
         || b >= 128
 }
 
-/// What may follow the first letter of an IRI's scheme.
+// What may follow the first letter of an IRI's scheme.
 #[tactic(auto, unfolding(crate::specs::Tokens::is_scheme))]
 fn is_scheme(b: u8) -> bool
     ensures { result ≡ tokens.is_scheme b }
@@ -115,7 +115,7 @@ fn is_scheme(b: u8) -> bool
         || b == b'-'
 }
 
-/// What may stand behind an IRI's colon.
+// What may stand behind an IRI's colon.
 #[tactic(auto, unfolding(crate::specs::Tokens::is_iri))]
 fn is_iri(b: u8) -> bool
     ensures { result ≡ tokens.is_iri b }
@@ -130,7 +130,7 @@ fn is_blank(b: u8) -> bool
     b == b' ' || b == b'\t' || b == b'\r' || b == b'\n'
 }
 
-/// A sign by itself that begins no other.
+// A sign by itself that begins no other.
 #[tactic(auto, unfolding(crate::specs::Tokens::is_single))]
 fn is_single(b: u8) -> bool
     ensures { result ≡ tokens.is_single b }
@@ -145,46 +145,46 @@ fn is_single(b: u8) -> bool
         || b == b'='
 }
 
-/// The state, where the test holds.
-fn when(test: bool, state: State) -> Option<State>
-    ensures { result ≡ machine.when test state }
+// The state, where the test holds.
+fn when(test: bool, state: ScanState) -> Option<ScanState>
+    ensures { result ≡ scanner.when test state }
 {
     if test { Some(state) } else { None }
 }
 
-fn start(b: u8) -> Option<State>
-    ensures { result ≡ machine.start b }
+fn start(b: u8) -> Option<ScanState>
+    ensures { result ≡ scanner.start b }
 {
     if is_letter(b) {
-        Some(State::Name)
+        Some(ScanState::Name)
     } else if is_digit(b) {
-        Some(State::Digits)
+        Some(ScanState::Digits)
     } else if is_single(b) {
-        Some(State::End(SqlKind::Sign))
+        Some(ScanState::End(SqlKind::Sign))
     } else if b == b':' {
-        Some(State::Colon)
+        Some(ScanState::Colon)
     } else if b == b'?' || b == b'$' {
-        Some(State::Mark)
+        Some(ScanState::Sigil)
     } else if b == b'<' {
-        Some(State::Less)
+        Some(ScanState::Less)
     } else if b == b'>' {
-        Some(State::Greater)
+        Some(ScanState::Greater)
     } else if b == b'!' {
-        Some(State::Bang)
+        Some(ScanState::Bang)
     } else if b == b'^' {
-        Some(State::Caret)
+        Some(ScanState::Caret)
     } else if b == b'-' {
-        Some(State::Minus)
+        Some(ScanState::Minus)
     } else if b == b'\'' {
-        Some(State::Quote)
+        Some(ScanState::Quote)
     } else {
-        when(b == b'"', State::Chars)
+        when(b == b'"', ScanState::Chars)
     }
 }
 
-/// One state for a byte that passes the first test, and another for one that passes the second.
-fn either(first: bool, one: State, second: bool, other: State) -> Option<State>
-    ensures { result ≡ machine.either first one second other }
+// One state for a byte that passes the first test, and another for one that passes the second.
+fn either(first: bool, one: ScanState, second: bool, other: ScanState) -> Option<ScanState>
+    ensures { result ≡ scanner.either first one second other }
 {
     if first {
         Some(one)
@@ -193,84 +193,89 @@ fn either(first: bool, one: State, second: bool, other: State) -> Option<State>
     }
 }
 
-fn step(state: State, b: u8) -> Option<State>
-    ensures { result ≡ machine.step state b }
+fn step(state: ScanState, b: u8) -> Option<ScanState>
+    ensures { result ≡ scanner.step state b }
 {
     match state {
-        State::Start => start(b),
-        State::Name => either(b == b':', State::Colon, is_word(b), State::Name),
-        State::Colon => when(is_local(b), State::Run),
-        State::Run => either(b == b'.', State::Dot, is_local(b), State::Run),
-        State::Dot => when(is_local(b), State::Run),
-        State::Mark => when(is_letter(b), State::Variable),
-        State::Variable => when(is_word(b), State::Variable),
-        State::Less => either(
+        ScanState::Start => start(b),
+        ScanState::Name => either(b == b':', ScanState::Colon, is_word(b), ScanState::Name),
+        ScanState::Colon => when(is_local(b), ScanState::Run),
+        ScanState::Run => either(b == b'.', ScanState::Dot, is_local(b), ScanState::Run),
+        ScanState::Dot => when(is_local(b), ScanState::Run),
+        ScanState::Sigil => when(is_letter(b), ScanState::Variable),
+        ScanState::Variable => when(is_word(b), ScanState::Variable),
+        ScanState::Less => either(
             b == b'>' || b == b'=',
-            State::End(SqlKind::Sign),
+            ScanState::End(SqlKind::Sign),
             is_alpha(b),
-            State::Scheme,
+            ScanState::Scheme,
         ),
-        State::Scheme => either(b == b':', State::Inside, is_scheme(b), State::Scheme),
-        State::Inside => either(
+        ScanState::Scheme => either(
+            b == b':',
+            ScanState::Inside,
+            is_scheme(b),
+            ScanState::Scheme,
+        ),
+        ScanState::Inside => either(
             b == b'>',
-            State::End(SqlKind::Iri),
+            ScanState::End(SqlKind::Iri),
             is_iri(b),
-            State::Inside,
+            ScanState::Inside,
         ),
-        State::Minus => when(is_digit(b), State::Digits),
-        State::Digits => when(is_digit(b), State::Digits),
-        State::Quote => either(b == b'\'', State::Closed, true, State::Quote),
-        State::Closed => when(b == b'\'', State::Quote),
-        State::Chars => chars(b),
-        State::Escape => when(b == b'"' || b == b'\\', State::Chars),
-        State::Greater => when(b == b'=', State::End(SqlKind::Sign)),
-        State::Bang => when(b == b'=', State::End(SqlKind::Sign)),
-        State::Caret => when(b == b'^', State::End(SqlKind::Sign)),
-        State::End(_) => None,
+        ScanState::Minus => when(is_digit(b), ScanState::Digits),
+        ScanState::Digits => when(is_digit(b), ScanState::Digits),
+        ScanState::Quote => either(b == b'\'', ScanState::Closed, true, ScanState::Quote),
+        ScanState::Closed => when(b == b'\'', ScanState::Quote),
+        ScanState::Chars => chars(b),
+        ScanState::Escape => when(b == b'"' || b == b'\\', ScanState::Chars),
+        ScanState::Greater => when(b == b'=', ScanState::End(SqlKind::Sign)),
+        ScanState::Bang => when(b == b'=', ScanState::End(SqlKind::Sign)),
+        ScanState::Caret => when(b == b'^', ScanState::End(SqlKind::Sign)),
+        ScanState::End(_) => None,
     }
 }
 
-fn chars(b: u8) -> Option<State>
-    ensures { result ≡ machine.step State.Chars b }
+fn chars(b: u8) -> Option<ScanState>
+    ensures { result ≡ scanner.step ScanState.Chars b }
 {
     if b == b'"' {
-        Some(State::End(SqlKind::Doubled))
+        Some(ScanState::End(SqlKind::Doubled))
     } else {
-        either(b == b'\\', State::Escape, true, State::Chars)
+        either(b == b'\\', ScanState::Escape, true, ScanState::Chars)
     }
 }
 
-/// The kind of a token that may end here.
-fn accept(state: State) -> Option<SqlKind>
-    ensures { result ≡ machine.accept state }
+// The kind of a token that may end here.
+fn accept(state: ScanState) -> Option<SqlKind>
+    ensures { result ≡ scanner.accept state }
 {
     match state {
-        State::Name => Some(SqlKind::Word),
-        State::Colon | State::Run => Some(SqlKind::Pname),
-        State::Variable => Some(SqlKind::Var),
-        State::Less | State::Greater => Some(SqlKind::Sign),
-        State::Digits => Some(SqlKind::Integer),
-        State::Closed => Some(SqlKind::Quoted),
-        State::End(kind) => Some(kind),
+        ScanState::Name => Some(SqlKind::Word),
+        ScanState::Colon | ScanState::Run => Some(SqlKind::Pname),
+        ScanState::Variable => Some(SqlKind::Var),
+        ScanState::Less | ScanState::Greater => Some(SqlKind::Sign),
+        ScanState::Digits => Some(SqlKind::Integer),
+        ScanState::Closed => Some(SqlKind::Quoted),
+        ScanState::End(kind) => Some(kind),
         _ => None,
     }
 }
 
-fn better(kind: Option<SqlKind>, size: usize, best: Option<Front>) -> Option<Front>
-    ensures { result ≡ machine.better kind size best }
+fn better(kind: Option<SqlKind>, size: usize, best: Option<Scanned>) -> Option<Scanned>
+    ensures { result ≡ scanner.better kind size best }
 {
     match kind {
         None => best,
-        Some(kind) => Some(Front { kind, size }),
+        Some(kind) => Some(Scanned { kind, size }),
     }
 }
 
-/// The longest token at the front, if one begins there.
-pub fn longest_token(bytes: &[u8]) -> Option<Front>
-    ensures value { result ≡ machine.longest State.Start 0 None bytes.now }
-    ensures within { FrontWithin (length bytes.now) result }
+/// The longest token that the bytes begin with, if they begin with one.
+pub fn longest_token(bytes: &[u8]) -> Option<Scanned>
+    ensures value { result ≡ scanner.longest ScanState.Start 0 None bytes.now }
+    ensures within { ScannedWithin (length bytes.now) result }
 {
-    let mut state = State::Start;
+    let mut state = ScanState::Start;
     let mut size = 0;
     let mut best = None;
     for b in bytes {
@@ -288,7 +293,7 @@ pub fn longest_token(bytes: &[u8]) -> Option<Front>
 
 /// How far blanks and comments go.
 pub fn gap_of(bytes: &[u8]) -> usize
-    ensures value { result ≡ machine.gap_scan 0 Gap.Plain bytes.now }
+    ensures value { result ≡ scanner.gap_scan 0 Gap.Plain bytes.now }
     ensures within { result ≤ length bytes.now }
 {
     let mut size = 0;
@@ -305,9 +310,9 @@ pub fn gap_of(bytes: &[u8]) -> usize
     size
 }
 
-/// What a byte leaves open between tokens, and how many bytes are then read for certain; nothing where it is no blank and no comment.
+// What a byte leaves open between tokens, and how many bytes are then read for certain; nothing where it is no part of a gap.
 fn between(gap: Gap, b: u8) -> Option<(Gap, usize)>
-    ensures value { result ≡ machine.between gap b }
+    ensures value { result ≡ scanner.between gap b }
     ensures few { IfSome result (λ p. p.1 ≤ 2) }
 {
     match gap {
@@ -324,7 +329,7 @@ fn between(gap: Gap, b: u8) -> Option<(Gap, usize)>
 }
 
 fn plain(b: u8) -> Option<(Gap, usize)>
-    ensures value { result ≡ machine.between Gap.Plain b }
+    ensures value { result ≡ scanner.between Gap.Plain b }
     ensures few { IfSome result (λ p. p.1 ≤ 2) }
 {
     if b == b'#' {
@@ -338,9 +343,9 @@ fn plain(b: u8) -> Option<(Gap, usize)>
     }
 }
 
-/// A line feed ends a comment.
+// A line feed ends a comment.
 fn in_comment(b: u8) -> Gap
-    ensures { result ≡ tokens.in_comment b }
+    ensures { result ≡ scanner.in_comment b }
 {
     if b == b'\n' { Gap::Plain } else { Gap::Comment }
 }

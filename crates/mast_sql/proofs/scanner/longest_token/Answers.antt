@@ -1,6 +1,6 @@
 use Rattle.std.proofs.Common.{sym, ◌∙◌}
 use Rattle.mast_sql.proofs.FrontLemmas.{stopped_within, ended_within}
-use Rattle.mast_sql.proofs.machine.longest_token.Goals as goal
+use Rattle.mast_sql.proofs.scanner.longest_token.Goals as goal
 
 pub returns-in-None-clause-within : goal.returns-in-None-clause-within
 returns-in-None-clause-within c =

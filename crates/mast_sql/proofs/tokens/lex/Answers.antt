@@ -1,6 +1,6 @@
 use Rattle.std.proofs.Common.{sym, ◌∙◌, arith, length}
-use Rattle.mast_sql.proofs.LexerLemmas.{all_read, breach_read, pushed, token_read, turns_over}
-use Rattle.mast_sql.proofs.lexer.lex.Goals as goal
+use Rattle.mast_sql.proofs.LexedLemmas.{all_read, breach_read, pushed, token_read, turns_over}
+use Rattle.mast_sql.proofs.tokens.lex.Goals as goal
 
 pub returns-then-is_empty : goal.returns-then-is_empty
 returns-then-is_empty c =

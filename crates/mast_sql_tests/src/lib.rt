@@ -1,5 +1,7 @@
-//! What no clause says: that calls succeed, and that the definitions give the answers of worked inputs.
-use crate::{
+//! Tests of mast_sql, of what no clause says: that calls succeed, and that the definitions give the answers of worked inputs.
+#![tactic(auto)]
+
+use mast_sql::{
     Compare, Operand, SourceQuery, SqlBreach, SqlKind, SqlLex, read_source_query, sql_tokens,
 };
 use mast_terms::{Stop, Text, Value};
@@ -19,7 +21,7 @@ fn letter(kind: SqlKind) -> u8 {
     }
 }
 
-/// The kinds as letters, each with its number of bytes, or the number of tokens before the breach.
+// The kinds as letters, each with its number of bytes, or the number of tokens before the breach.
 fn kinds(alloc: Global, source: &str) -> Result<String, AllocError> {
     let mut text = String::new(alloc);
     if source.len() >= 4294967295 {
@@ -107,7 +109,7 @@ fn sign(op: Compare) -> &'static str {
     }
 }
 
-/// The parts of a query, each with what it means where the text does not say it.
+// The parts of a query, each with what it means where the text does not say it.
 fn show(query: &SourceQuery, out: &mut String) -> Result<(), AllocError> {
     for item in query.items.as_slice() {
         show_column(&item.alias, &item.column, out)?;
@@ -128,7 +130,7 @@ fn show(query: &SourceQuery, out: &mut String) -> Result<(), AllocError> {
     Ok(())
 }
 
-/// The query, or the kind of its breach and its token.
+// The query, or the kind of its breach and its token.
 fn read(alloc: Global, text: &str) -> Result<String, AllocError> {
     let mut out = String::new(alloc);
     if text.len() >= 4294967295 {

@@ -1,6 +1,6 @@
 use Rattle.std.proofs.Common.{sym, ◌∙◌}
 use Rattle.mast_sql.proofs.GapLemmas.{stopped_within, ended_within}
-use Rattle.mast_sql.proofs.machine.gap_of.Goals as goal
+use Rattle.mast_sql.proofs.scanner.gap_of.Goals as goal
 
 pub returns-in-None-clause-within : goal.returns-in-None-clause-within
 returns-in-None-clause-within c =

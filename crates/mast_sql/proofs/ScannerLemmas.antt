@@ -1,31 +1,23 @@
--- The machine accepts exactly the tokens.
+-- What each state of the scanner accepts.
 use Rattle.std.proofs.Common.{◌≡◌, inl, inr, ℕ, ◌==◌, ◌||◌, Bool, true, false, List, ◌∷◌, [], refl, sym, ◌∙◌, subst, arith}
 use Rattle.std.specs.Prelude.{Option, Some}
-use Rattle.std.proofs.lemmas.Bool.Decides.{nat_tests}
 use Rattle.std.proofs.lemmas.Bool.{cases_Bool}
+use Rattle.mast_source.proofs.ByteLemmas.{is_byte}
 use Rattle.mast_sql.specs.declared.token.SqlKind.{SqlKind}
 use Rattle.mast_sql.specs.declared.token.SqlKind.TheVariants.{Word, Pname, Var, Iri, Integer, Quoted, Doubled, Sign}
-use Rattle.mast_sql.specs.declared.machine.State.{State}
-use Rattle.mast_sql.specs.declared.machine.State.TheVariants.{Name, Colon, Run, Dot, Mark, Variable, Less, Scheme, Inside, Minus, Digits, Quote, Closed, Chars, Escape, Greater, Bang, Caret, End}
+use Rattle.mast_sql.specs.declared.scanner.ScanState.{ScanState}
+use Rattle.mast_sql.specs.declared.scanner.ScanState.TheVariants.{Name, Colon, Run, Dot, Sigil, Variable, Less, Scheme, Inside, Minus, Digits, Quote, Closed, Chars, Escape, Greater, Bang, Caret, End}
 use Rattle.mast_sql.specs.Tokens.{is_alpha, is_digit, is_letter, is_word, is_local, is_scheme, is_iri, is_single, is_end, are_digits, are_word, number, word, run_rest, is_run, pname_rest, iri_chars, scheme_rest, iri_rest, quoted_rest, doubled_rest, is_sign}
-use Rattle.mast_sql.specs.Machine.{when, accepts}
-
-pub is_byte : (b n : ℕ) → (b == n) ≡ true → b ≡ n
-is_byte b n h = grind (arith, nat_tests)
-
--- a byte that passes a test is none that does not
-pub other_byte : (test : ℕ → Bool) (b n : ℕ) → test b ≡ true → test n ≡ false → (b == n) ≡ false
-other_byte test b n h q = elim (cases_Bool (b == n)) [
-  | inl e ↦ absurd (let s = is_byte b n e in let f : test n ≡ true = subst (λ x. test x ≡ true) s h in cc)
-  | inr e ↦ e
-]
+use Rattle.mast_sql.specs.inside.Scanner.{when, accepts}
 
 -- what each state accepts
 
+-- behind a whole token nothing
 pub end_accepts : (k : SqlKind) (w : List ℕ) → accepts (End k) w ≡ when (is_end w) k
 end_accepts k [] = refl
 end_accepts k (b ∷ w) = refl
 
+-- behind a digit, digits
 pub digits_accepts : (w : List ℕ) → accepts Digits w ≡ when (are_digits w) Integer
 digits_accepts [] = refl
 digits_accepts (b ∷ w) = elim (cases_Bool (is_digit b)) [
@@ -33,6 +25,7 @@ digits_accepts (b ∷ w) = elim (cases_Bool (is_digit b)) [
   | inr e ↦ rw e refl
 ]
 
+-- behind a minus, a digit and digits
 pub minus_accepts : (w : List ℕ) → accepts Minus w ≡ when (number w) Integer
 minus_accepts [] = refl
 minus_accepts (b ∷ w) = elim (cases_Bool (is_digit b)) [
@@ -47,14 +40,15 @@ variable_accepts (b ∷ w) = elim (cases_Bool (is_word b)) [
   | inr e ↦ rw e refl
 ]
 
-pub mark_accepts : (w : List ℕ) → accepts Mark w ≡ when (word w) Var
-mark_accepts [] = refl
-mark_accepts (b ∷ w) = elim (cases_Bool (is_letter b)) [
+-- behind `?` or `$`, a word
+pub sigil_accepts : (w : List ℕ) → accepts Sigil w ≡ when (word w) Var
+sigil_accepts [] = refl
+sigil_accepts (b ∷ w) = elim (cases_Bool (is_letter b)) [
   | inl e ↦ rw e (variable_accepts w)
   | inr e ↦ rw e refl
 ]
 
-abbrev pub in_run : Bool → State
+abbrev pub in_run : Bool → ScanState
 in_run true = Dot
 in_run false = Run
 
@@ -73,6 +67,7 @@ run_accepts false (b ∷ w) = elim (cases_Bool (b == 46)) [
   ]
 ]
 
+-- behind a colon, a run
 pub colon_accepts : (w : List ℕ) → accepts Colon w ≡ when (is_run w) Pname
 colon_accepts [] = refl
 colon_accepts (b ∷ w) = elim (cases_Bool (is_local b)) [
@@ -80,14 +75,17 @@ colon_accepts (b ∷ w) = elim (cases_Bool (is_local b)) [
   | inr e ↦ rw e refl
 ]
 
+-- a word, or a word with a colon and a run
 abbrev pub name_kind : Bool → Bool → Option SqlKind
 name_kind true pname = Some Word
 name_kind false pname = when pname Pname
 
+-- a colon is no part of a word
 pub colon_no_word : (b : ℕ) → (b == 58) ≡ true → is_word b ≡ false
 unfolding is_word
 colon_no_word b e = subst (λ x. is_word x ≡ false) (sym (is_byte b 58 e)) refl
 
+-- behind a letter, the rest of a word or of a Pname
 pub name_accepts : (w : List ℕ) → accepts Name w ≡ name_kind (are_word w) (pname_rest w)
 name_accepts [] = refl
 name_accepts (b ∷ w) = elim (cases_Bool (b == 58)) [
@@ -118,10 +116,11 @@ scheme_accepts (b ∷ w) = elim (cases_Bool (b == 58)) [
   ]
 ]
 
-abbrev pub in_quotes : Bool → State
+abbrev pub in_quotes : Bool → ScanState
 in_quotes true = Closed
 in_quotes false = Quote
 
+-- inside single quotes, the rest of them
 pub quoted_accepts : (quote : Bool) (w : List ℕ) → accepts (in_quotes quote) w ≡ when (quoted_rest quote w) Quoted
 quoted_accepts true [] = refl
 quoted_accepts false [] = refl
@@ -134,10 +133,11 @@ quoted_accepts false (b ∷ w) = elim (cases_Bool (b == 39)) [
   | inr e ↦ rw e (quoted_accepts false w)
 ]
 
-abbrev pub in_chars : Bool → State
+abbrev pub in_chars : Bool → ScanState
 in_chars true = Escape
 in_chars false = Chars
 
+-- inside double quotes, the rest of them
 pub doubled_accepts : (escaped : Bool) (w : List ℕ) → accepts (in_chars escaped) w ≡ when (doubled_rest escaped w) Doubled
 doubled_accepts true [] = refl
 doubled_accepts false [] = refl
@@ -165,6 +165,7 @@ sign_no_alpha b e = elim (cases_Bool (b == 62)) [
   | inr d ↦ subst (λ x. is_alpha x ≡ false) (sym (is_byte b 61 (rw d at e))) refl
 ]
 
+-- behind `<`, the rest of a sign or of an IRI
 pub less_accepts : (w : List ℕ) → accepts Less w ≡ less_kind (is_sign 60 w) (iri_rest w)
 unfolding is_single
 less_accepts [] = refl
@@ -180,6 +181,7 @@ less_accepts (b ∷ w) = elim (cases_Bool (b == 62 || b == 61)) [
     last true = refl
     last false = refl
 
+-- behind `>`, the rest of a sign
 pub greater_accepts : (w : List ℕ) → accepts Greater w ≡ when (is_sign 62 w) Sign
 unfolding is_single
 greater_accepts [] = refl
@@ -188,6 +190,7 @@ greater_accepts (b ∷ w) = elim (cases_Bool (b == 61)) [
   | inr e ↦ rw e refl
 ]
 
+-- behind `!`, the rest of a sign
 pub bang_accepts : (w : List ℕ) → accepts Bang w ≡ when (is_sign 33 w) Sign
 unfolding is_single
 bang_accepts [] = refl
@@ -196,6 +199,7 @@ bang_accepts (b ∷ w) = elim (cases_Bool (b == 61)) [
   | inr e ↦ rw e refl
 ]
 
+-- behind `^`, the rest of a sign
 pub caret_accepts : (w : List ℕ) → accepts Caret w ≡ when (is_sign 94 w) Sign
 unfolding is_single
 caret_accepts [] = refl
