@@ -1,5 +1,6 @@
 pub mod BackLemmas
 pub mod DateLemmas
+pub mod Examples
 pub mod ForthLemmas
 pub mod FrontLemmas
 pub mod GapLemmas
