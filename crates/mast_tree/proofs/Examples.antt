@@ -1,30 +1,27 @@
 -- Worked inputs: what the definitions say of them.
-use Rattle.std.proofs.Common.{◌≡◌, ℕ, zero, suc, false, true, List, ◌∷◌, [], refl, subst, inr, drop}
-use Rattle.std.specs.Prelude.{Some, None, Ok, Err, codes}
+use Rattle.std.proofs.Common.{◌≡◌, ℕ, zero, suc, List, ◌∷◌, [], refl, subst, inr, drop}
+use Rattle.std.specs.Prelude.{Ok, Err, codes}
 use Rattle.std.specs.Str.{IsUtf8, is_utf8, chars}
 use lib.Utf8.{encode}
 use Rattle.std.proofs.lemmas.Str.{IsUtf8-from_is_utf8}
 use Rattle.mast_source.specs.Bom.{bom_length}
 use Rattle.mast_tree.specs.declared.item.Item.{Item}
 use Rattle.mast_tree.specs.declared.item.Item.TheVariants as item
-use Rattle.mast_tree.specs.declared.parser.ParseState.TheVariants as state
 use Rattle.mast_tree.specs.declared.shape.ShapeKind.TheVariants.{Shape, UnknownPrefix}
 use Rattle.mast_tree.specs.declared.token.LexBreach.{LexBreach}
-use Rattle.mast_tree.specs.declared.token.LexKind.TheVariants.{Character, OpenString, Escape, OpenIri}
+use Rattle.mast_tree.specs.declared.token.LexKind.TheVariants.{Character, Escape, OpenIri}
 use Rattle.mast_tree.specs.declared.token.Token.{Token}
 use Rattle.mast_tree.specs.declared.token.TokenKind.{TokenKind}
 use Rattle.mast_tree.specs.declared.token.TokenKind.TheVariants.{Open, Close, Equals, Carets, Lang, Iri, Name, Str}
-use Rattle.mast_tree.specs.Grammar.{fine, unexpected, deep, DeepAt, Tells}
+use Rattle.mast_tree.specs.Grammar.{fine, unexpected, DeepAt, Tells}
 use Rattle.mast_tree.specs.Prefixes.{iri_of}
 use Rattle.mast_tree.specs.Prologue.{IsPrologue, IsPrologueBreach}
 use Rattle.mast_tree.specs.Source.{AreTokens, IsLexBreach}
 use Rattle.mast_tree.specs.Tokens.{is_name, is_lang, is_iri, is_blank}
 use Rattle.mast_tree.specs.Words.{text_of}
 use Rattle.mast_tree.specs.inside.Lexed.{read, wrong, reading}
-use Rattle.mast_tree.specs.inside.Parser.{look}
-use Rattle.mast_tree.specs.inside.Prologue.{prologue_of}
 use Rattle.mast_tree.proofs.LookLemmas.{look_exact}
-use Rattle.mast_tree.proofs.PrologueLemmas.{PrologueTells, prologue_tells}
+use Rattle.mast_tree.proofs.PrologueLemmas.{prologue_tells}
 use Rattle.mast_tree.proofs.SourceLemmas.{Told}
 use Rattle.mast_tree.proofs.TokenLawLemmas.{reading_told}
 

@@ -1,8 +1,7 @@
 -- Where the tokens of a source stand.
-use Rattle.std.proofs.Common.{◌≡◌, ℕ, zero, suc, ◌+◌, ◌-◌, ◌≤◌, ◌==◌, ◌&&◌, true, List, ◌∷◌, [], ◌++◌, length, take, drop, refl, ap, sym, ◌∙◌, subst, arith, append_assoc, inl, inr}
+use Rattle.std.proofs.Common.{◌≡◌, ℕ, zero, suc, ◌+◌, ◌-◌, ◌≤◌, true, List, ◌∷◌, [], ◌++◌, length, take, drop, refl, ap, sym, ◌∙◌, subst, arith, append_assoc, inl, inr}
 use Rattle.std.specs.Prelude.{Some, slice_get}
 use Rattle.std.proofs.lemmas.List.{length-append, take-append-drop}
-use Rattle.std.proofs.lemmas.Bool.{and_parts, cases_Bool}
 use Rattle.std.proofs.Math.Seq.{take-append_seam, drop-append_seam}
 use Rattle.mast_source.specs.Bom.{bom_length}
 use Rattle.mast_source.proofs.BomLemmas.{bom_within, bom_taken}
@@ -11,7 +10,6 @@ use Rattle.mast_tree.specs.Tokens.{is_token, feeds}
 use Rattle.mast_tree.specs.Source.{Lexes, AreTokens}
 use Rattle.mast_tree.specs.Words.{span}
 use Rattle.mast_tree.specs.Laws.{IsPlaced, ArePlaced}
-use Rattle.mast_source.proofs.ByteLemmas.{is_byte}
 use Rattle.mast_tree.proofs.SourceLemmas.{word_some}
 
 feeds_append : (a b : List ℕ) → feeds (a ++ b) ≡ feeds a + feeds b

@@ -105,7 +105,12 @@ impl PrefixTable {
     }
 
     // Adds a prefix. The answer is whether it is new.
-    pub(crate) fn add(&mut self, alloc: Global, prefix: &str, namespace: &str) -> Result<bool, NoMemory>
+    pub(crate) fn add(
+        &mut self,
+        alloc: Global,
+        prefix: &str,
+        namespace: &str,
+    ) -> Result<bool, NoMemory>
         ensures { IfOk result (λ fresh. IsAdded fresh prefix.now namespace.now self.old self.new) }
     {
         if find(&self.namespaces, prefix).is_some() {
