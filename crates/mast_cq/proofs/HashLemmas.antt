@@ -1,17 +1,15 @@
 -- What a hasher is fed tells arguments, atoms and queries.
-use Rattle.std.proofs.Common.{◌≡◌, ◌↔◌, ℕ, pos, ◌<◌, ◌^◌, List, [], ◌++◌, refl, ap, sym, ◌∙◌, arith}
+use Rattle.std.proofs.Common.{◌≡◌, ℕ, pos, ◌<◌, ◌^◌, List, [], ◌++◌, refl, ap, sym, ◌∙◌, arith}
 use Rattle.std.specs.Hash as fed
 use Rattle.std.specs.Hash.{HashWrites}
-use Rattle.mast_terms.specs.Hashes.{fed_bytes, TellsApart, FitsName, FitsList}
+use Rattle.mast_terms.specs.Hashes.{fed_bytes, TellsApart, FitsName}
 use Rattle.mast_terms.specs.declared.name.Name.{Name}
 use Rattle.mast_terms.specs.contracts.name.NameHash.TheImpl as name_hash
 use Rattle.mast_terms.proofs.HashLemmas.{told_first, told_then, told_tag, u32_tells, list_tells}
 use Rattle.mast_terms.proofs.KeyLemmas.{name_tells}
 use Rattle.mast_cq.specs.declared.atom.Arg.{Arg}
 use Rattle.mast_cq.specs.declared.atom.Arg.TheVariants.{Blank, Var, Constant}
-use Rattle.mast_cq.specs.declared.atom.Atom.{Atom}
 use Rattle.mast_cq.specs.declared.atom.Atom.TheVariants.{Class, Role, Attr}
-use Rattle.mast_cq.specs.declared.query.Cq.{Cq}
 use Rattle.mast_cq.specs.declared.query.CqRef.{CqRef}
 use Rattle.mast_cq.specs.Hashes.{FitsArg, FitsAtom, FitsQuery, TellsViews, FeedsContents}
 use Rattle.mast_cq.specs.Queries.{viewed}

@@ -1,12 +1,12 @@
 -- Two atoms that one fact meets unify, and the assignment respects the replacement.
-use Rattle.std.proofs.Common.{◌≡◌, ℕ, List, [], ◌∷◌, map, Bool, true, false, nat_eq, Some, None, Option, sym, refl, ap, subst, ◌∙◌}
+use Rattle.std.proofs.Common.{◌≡◌, ℕ, List, Bool, true, false, nat_eq, Some, None, Option, sym, refl, ap, subst, ◌∙◌}
 use borrow.Author.Tests.{eqb-true, eq-eqb}
 use Rattle.mast_terms.specs.declared.name.Name.{Name}
 use Rattle.mast_cq.specs.declared.atom.Arg.{Arg}
 use Rattle.mast_cq.specs.declared.atom.Arg.TheVariants.{Blank, Var, Constant}
 use Rattle.mast_cq.specs.declared.atom.Atom.{Atom}
 use Rattle.mast_cq.specs.declared.atom.Atom.TheVariants.{Class, Role, Attr}
-use Rattle.mast_cq.specs.Unification.{Replacement, replace_arg, replace, only, wins, unify_args, fuller, Meeting, after, meeting_of_one, meeting_of_two, meeting_of_pairs, meeting}
+use Rattle.mast_cq.specs.Unification.{Replacement, replace_arg, only, wins, unify_args, fuller, Meeting, after, meeting_of_one, meeting_of_two, meeting_of_pairs, meeting}
 use Rattle.mast_cq.specs.Meanings.{Fact, InClass, InRole, InAttr}
 use Rattle.mast_cq.specs.Meanings.{Fits as FitsBy, Match as MatchBy}
 use Rattle.mast_cq.proofs.ReplacementLemmas.{respects_fits, respects_stands}

@@ -18,6 +18,7 @@ pub mod WinnerLemmas
 pub mod StepLemmas
 pub mod MadeLemmas
 pub mod OriginLemmas
+pub mod MeetingOriginLemmas
 pub mod StepOriginLemmas
 pub mod HashLemmas
 pub mod TotalOrderLemmas

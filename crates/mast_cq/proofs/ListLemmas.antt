@@ -1,5 +1,5 @@
 -- What holds of each element of a list, and of each after a map; elements of lists.
-use Rattle.std.proofs.Common.{◌≡◌, ℕ, suc, List, [], ◌∷◌, ◌++◌, length, map, ◌⊎◌, inl, inr, refl, ap, subst, sym}
+use Rattle.std.proofs.Common.{◌≡◌, suc, List, [], ◌∷◌, ◌++◌, length, map, ◌⊎◌, inl, inr, refl, ap, subst, sym}
 use Rattle.std.specs.List.{AllByRecursion}
 use Rattle.mast_cq.specs.Queries.{In}
 

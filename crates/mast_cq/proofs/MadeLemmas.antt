@@ -1,5 +1,5 @@
 -- What a meeting is made of: the replacements that make one pair of arguments one, and then the other.
-use Rattle.std.proofs.Common.{◌≡◌, ℕ, List, Bool, true, false, nat_eq, Some, None, Option, refl}
+use Rattle.std.proofs.Common.{◌≡◌, List, Bool, true, false, nat_eq, Some, None, Option, refl}
 use Rattle.mast_terms.specs.declared.name.Name.{Name}
 use Rattle.mast_cq.specs.declared.atom.Arg.{Arg}
 use Rattle.mast_cq.specs.declared.atom.Atom.{Atom}

@@ -1,5 +1,5 @@
 -- The arguments of a normal form come from the query.
-use Rattle.std.proofs.Common.{◌≡◌, ℕ, zero, suc, ◌<◌, List, [], ◌∷◌, ◌++◌, map, Bool, true, false, nat_eq, Some, None, Option, ◌⊎◌, inl, inr, sym, refl, ap, subst, ◌∙◌}
+use Rattle.std.proofs.Common.{◌≡◌, ℕ, zero, suc, ◌<◌, List, [], ◌∷◌, map, Bool, true, false, nat_eq, Some, None, Option, ◌⊎◌, inl, inr, sym, refl, subst, ◌∙◌}
 use Rattle.std.specs.List.{AllByRecursion}
 use Rattle.mast_terms.specs.declared.name.NameKind.{NameKind}
 use Rattle.mast_terms.specs.declared.name.NameKind.TheVariants as kinds

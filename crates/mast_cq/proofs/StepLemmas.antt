@@ -1,15 +1,12 @@
 -- A closure's step keeps the meaning: what the query has it has after the step, and the other way.
-use Rattle.std.proofs.Common.{◌≡◌, ℕ, ◌<◌, ◌≤◌, List, ◌∷◌, length, map, Some, ◌⊎◌, inl, inr, subst, sym, arith}
-use Rattle.std.specs.List.{AllByRecursion}
+use Rattle.std.proofs.Common.{◌≡◌, ℕ, List, Some}
 use Rattle.mast_cq.specs.declared.atom.Atom.{Atom}
 use Rattle.mast_cq.specs.declared.query.Cq.{Cq}
-use Rattle.mast_cq.specs.ListPlaces.{TwoPlaces}
 use Rattle.mast_cq.specs.Meanings.{Fact, Match, MetBy, HasTuple}
-use Rattle.mast_cq.specs.NormalForms.{normal_form}
 use Rattle.mast_cq.specs.Queries.{TakesTwo}
-use Rattle.mast_cq.specs.Steps.{stepped, Implies, StepsAreSound, StepsAreComplete, StepsFollow, Holding, SteppedHas}
+use Rattle.mast_cq.specs.Steps.{stepped, Implies, StepsAreSound, StepsAreComplete, StepsFollow, Holding}
 use Rattle.mast_cq.specs.Unification.{replace, Meeting, meeting}
-use Rattle.mast_cq.specs.UnifierMeanings.{before, IsBelow, Joined, Parts, Respects}
+use Rattle.mast_cq.specs.UnifierMeanings.{before, IsBelow, Parts, Respects}
 use Rattle.mast_cq.proofs.JoinLemmas.{join}
 use Rattle.mast_cq.proofs.ListLemmas.{each_map, map_each}
 use Rattle.mast_cq.proofs.PartsLemmas.{parts}

@@ -1,5 +1,5 @@
 -- The orders of arguments, atoms and queries are total, and only equal ones tie.
-use Rattle.std.proofs.Common.{◌≡◌, ◌↔◌, ℕ, List, [], ◌∷◌, refl, ap, ap₂, subst}
+use Rattle.std.proofs.Common.{◌≡◌, ℕ, List, [], ◌∷◌, refl, ap, ap₂, subst}
 use Rattle.std.specs.Cmp.{on_total, then_total}
 use Rattle.std.specs.Cmp.Lexicographic.{slice_cmp, lists_total, nat_list_cmp_total}
 use Rattle.std.specs.Ordering.{nat_cmp, ordering_then}
@@ -7,8 +7,6 @@ use Rattle.std.specs.declared.cmp.Ordering.{Ordering}
 use Rattle.std.specs.declared.cmp.Ordering.TheVariants.{Less, Equal, Greater}
 use Rattle.mast_terms.specs.Orders.{OrdersAll}
 use Rattle.mast_terms.proofs.OrderLemmas.{text_orders}
-use Rattle.mast_cq.specs.declared.atom.Arg.{Arg}
-use Rattle.mast_cq.specs.declared.atom.Atom.{Atom}
 use Rattle.mast_cq.specs.declared.query.Cq.{Cq}
 use Rattle.mast_cq.specs.Queries.{arg_key, atom_key, arg_order, atom_order, query_order}
 use Rattle.mast_cq.proofs.OrderLemmas.{arg_inj, key_inj}

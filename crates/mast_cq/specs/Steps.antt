@@ -1,14 +1,13 @@
 -- A step of a closure: two atoms of a query, at two of its places, are met, and their meeting stands first in place of both.
-use Rattle.std.specs.Prelude.{◌≡◌, List, ◌∷◌, map, Some}
+use Rattle.std.specs.Prelude.{◌≡◌, ℕ, List, ◌∷◌, map, Some}
 use Rattle.std.specs.List.{AllByRecursion}
 use Rattle.mast_cq.specs.declared.atom.Atom.{Atom}
 use Rattle.mast_cq.specs.declared.query.Cq.{Cq}
 use Rattle.mast_cq.specs.ListPlaces.{TwoPlaces}
-use Rattle.mast_cq.specs.Meanings.{Fact, Gives, Match, MetBy, HasTuple}
+use Rattle.mast_cq.specs.Meanings.{Fact, Gives, MetBy, HasTuple}
 use Rattle.mast_cq.specs.NormalForms.{normal_form}
 use Rattle.mast_cq.specs.Unification.{replace_arg, replace, Meeting, meeting}
 use Rattle.mast_cq.specs.UnifierMeanings.{AreApart, BothAre, IsBelow, KnownAtom, Respects}
-use Rattle.std.specs.Prelude.{ℕ}
 
 -- the query after a meeting of two of its atoms: the meeting's atom first, and then the other atoms in their order
 abbrev pub stepped : Cq → Meeting → List Atom → Cq
@@ -50,5 +49,6 @@ StepsAreComplete {X} constant P = (bound : ℕ) (s : ℕ → X) (q : Cq) (left r
 -- Steps follow: where an assignment respects the replacement of a meeting, whichever it is, and makes its atom a fact with P, the query
 -- has the tuple after the step.
 abbrev pub StepsFollow : {X : Type 0} → (ℕ → X) → (Fact X → Type 0) → Type 0
-StepsFollow {X} constant P = (s : ℕ → X) (q : Cq) (m : Meeting) (others : List Atom) (tuple : List X) → Respects constant s m.replacement → MetBy constant P s m.atom
-    → Holding constant P s q others tuple → HasTuple constant P (normal_form (stepped q m others)) tuple
+StepsFollow {X} constant P = (s : ℕ → X) (q : Cq) (m : Meeting) (others : List Atom) (tuple : List X)
+    → Respects constant s m.replacement → MetBy constant P s m.atom → Holding constant P s q others tuple
+    → HasTuple constant P (normal_form (stepped q m others)) tuple

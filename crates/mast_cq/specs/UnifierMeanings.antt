@@ -62,7 +62,8 @@ before constant s r n = value constant (s n) s (r n)
 -- no variable becomes `_`, and what the meeting's atom is, both atoms are after the replacement
 pub record Parts {X : Type 0} (constant : ℕ → X) (g h : Atom) (m : Meeting) : Type 0 where
   pub proper : Proper m.replacement
-  pub splits : (s : ℕ → X) (f : Fact X) → Match constant s m.atom f → Match constant s (replace m.replacement g) f × Match constant s (replace m.replacement h) f
+  pub splits : (s : ℕ → X) (f : Fact X) → Match constant s m.atom f
+      → Match constant s (replace m.replacement g) f × Match constant s (replace m.replacement h) f
 
 -- the number is less than the bound
 abbrev pub IsBelow : ℕ → ℕ → Type 0
@@ -105,9 +106,10 @@ MeetingsAreComplete {X} constant = (bound : ℕ) (answer : List Arg) (s : ℕ �
 -- Unifying is complete: where one fact with P is the atoms at two places under an assignment, and each atom is one, the unified query has
 -- what the query has under it. Different known constants stand for different terms.
 abbrev pub UnifyingIsComplete : {X : Type 0} → (ℕ → X) → (Fact X → Type 0) → Type 0
-UnifyingIsComplete {X} constant P = (bound : ℕ) (q : Cq) (i j : ℕ) (tuple : List X) (g h : Atom) (f : Fact X) (s : ℕ → X) → AreApart constant bound
-    → slice_get q.atoms i ≡ Some g → slice_get q.atoms j ≡ Some h → KnownAtom (IsBelow bound) g → KnownAtom (IsBelow bound) h
-    → BothAre constant s g h f → P f → AllByRecursion (MetBy constant P s) q.atoms → Gives constant s q.answer tuple → UnifiedHas constant P q i j tuple
+UnifyingIsComplete {X} constant P = (bound : ℕ) (q : Cq) (i j : ℕ) (tuple : List X) (g h : Atom) (f : Fact X) (s : ℕ → X)
+    → AreApart constant bound → slice_get q.atoms i ≡ Some g → slice_get q.atoms j ≡ Some h → KnownAtom (IsBelow bound) g → KnownAtom (IsBelow bound) h
+    → BothAre constant s g h f → P f → AllByRecursion (MetBy constant P s) q.atoms → Gives constant s q.answer tuple
+    → UnifiedHas constant P q i j tuple
 
 -- Meetings are sound: a meeting's atom splits back into both atoms.
 abbrev pub MeetingsAreSound : {X : Type 0} → (ℕ → X) → Type 0

@@ -1,5 +1,5 @@
 use Rattle.mast_cq.proofs.MovesLemmas.{meeting_fixed}
-use Rattle.mast_cq.proofs.StepOriginLemmas.{stays_within}
+use Rattle.mast_cq.proofs.MeetingOriginLemmas.{stays_within}
 use Rattle.mast_cq.proofs.laws.unify_moves_law.Goals as goal
 
 pub returns-clause-others : goal.returns-clause-others
