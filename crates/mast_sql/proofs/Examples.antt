@@ -4,7 +4,7 @@ use Rattle.std.specs.Prelude.{Some, None, codes, negsuc}
 use Rattle.mast_source.specs.Bom.{bom}
 use Rattle.mast_terms.specs.declared.value.Value.TheVariants as value
 use Rattle.mast_sql.specs.declared.token.SqlKind.{SqlKind}
-use Rattle.mast_sql.specs.declared.token.SqlKind.TheVariants.{Word, Pname, Var, Iri, Integer, Quoted, Doubled, Sign}
+use Rattle.mast_sql.specs.declared.token.SqlKind.TheVariants.{Word, Pname, Var, Iri, Integer, Quoted, Sign}
 use Rattle.mast_sql.specs.declared.token.SqlToken.{SqlToken}
 use Rattle.mast_sql.specs.declared.token.SqlLex.{SqlLex}
 use Rattle.mast_sql.specs.declared.query.Compare.TheVariants as op

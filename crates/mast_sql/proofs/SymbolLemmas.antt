@@ -1,8 +1,7 @@
 -- The tokens of a text are slices of it and stand for one list of symbols.
-use Rattle.std.proofs.Common.{◌≡◌, inl, inr, ℕ, zero, suc, ◌+◌, ◌-◌, ◌<◌, ◌≤◌, true, List, ◌∷◌, [], ◌++◌, length, take, drop, get_or, refl, ap, sym, ◌∙◌, subst, arith, append_assoc}
-use Rattle.std.specs.Prelude.{Some, slice_get, ◌==◌, ◌&&◌}
+use Rattle.std.proofs.Common.{◌≡◌, ℕ, zero, suc, ◌+◌, ◌<◌, true, List, ◌∷◌, [], ◌++◌, length, take, drop, get_or, refl, ap, sym, ◌∙◌, subst, arith, append_assoc}
+use Rattle.std.specs.Prelude.{Some, slice_get}
 use Rattle.std.proofs.lemmas.List.{length-append, length-take-le, take-append-drop}
-use Rattle.std.proofs.lemmas.Bool.{cases_Bool}
 use Rattle.mast_source.specs.Bom.{bom_length}
 use Rattle.mast_source.proofs.BomLemmas.{bom_within}
 use Rattle.mast_source.proofs.SliceLemmas.{between_of}
