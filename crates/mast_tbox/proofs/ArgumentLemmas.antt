@@ -1,10 +1,11 @@
 -- What the steps by inclusions keep of an atom's arguments: which they are, their sorts, and where a variable stands.
-use Rattle.std.proofs.Common.{◌≡◌, ℕ, ◌⊎◌, inl, inr, ◌↔◌, List, [], ◌∷◌, ◌++◌, sym, subst, ◌∙◌}
+use Rattle.std.proofs.Common.{refl, ◌≡◌, ℕ, ◌⊎◌, inl, inr, ◌↔◌, List, [], ◌∷◌, ◌++◌, sym, subst, ◌∙◌}
 use Rattle.mast_cq.specs.declared.atom.Arg.{Arg}
 use Rattle.mast_cq.specs.declared.atom.Arg.TheVariants.{Blank, Var, Constant}
 use Rattle.mast_cq.specs.declared.atom.Atom.{Atom}
 use Rattle.mast_cq.specs.declared.atom.Atom.TheVariants.{Class, Role, Attr}
 use Rattle.mast_cq.specs.NormalForms.{Occurs, Twice}
+use Rattle.mast_cq.specs.Origins.{AreFrom, AtomDrawsFrom}
 use Rattle.mast_cq.specs.Queries.{In}
 use Rattle.mast_cq.specs.Sorts.{objects_of, values_of, arguments_of, of_all, EachHasOneSort}
 use Rattle.mast_tbox.specs.declared.expression.RoleExpr.TheVariants.{Direct, Inverse}
@@ -13,7 +14,7 @@ use Rattle.mast_tbox.specs.declared.expression.Basic.TheVariants.{Class as BClas
 use Rattle.mast_tbox.specs.declared.expression.Prop.{Prop}
 use Rattle.mast_tbox.specs.declared.expression.Prop.TheVariants.{Role as PRole, Attr as PAttr}
 use Rattle.mast_tbox.specs.declared.axiom.Inclusion.{Inclusion}
-use Rattle.mast_tbox.specs.Arguments.{HaveSameArguments}
+use Rattle.mast_tbox.specs.Arguments.{AreSameButBlank, HaveSameArguments}
 use Rattle.mast_tbox.specs.Closure.{AtomStep, Down}
 use Rattle.mast_tbox.specs.Expressions.{pair, at, subjects}
 use Rattle.mast_tbox.specs.Inclusions.{States}
@@ -78,6 +79,18 @@ same_joined g h i a b = record {
 pub down_same : (tbox : List Inclusion) (g h : Atom) → Down tbox g h → HaveSameArguments g h
 down_same tbox g h itself = record { objects = λ z n. (λ i. i, λ i. i); values = λ z n. (λ i. i, λ i. i) }
 down_same tbox g h (onward {y = w} s d) = same_joined g w h (step_same tbox g w s) (down_same tbox w h d)
+
+-- arguments that are the same but for `_` come from the others
+from_same : (xs ys : List Arg) → AreSameButBlank xs ys → AreFrom ys xs
+from_same xs ys a Blank i = inl refl
+from_same xs ys a (Var n) i = inr ((a (Var n) (λ e. cc)).1 i)
+from_same xs ys a (Constant n) i = inr ((a (Constant n) (λ e. cc)).1 i)
+
+-- a member of Down draws its arguments from the atom
+pub down_draws : (tbox : List Inclusion) (g h : Atom) → Down tbox g h → AtomDrawsFrom h g
+down_draws tbox g h d =
+    let a = down_same tbox g h d in
+    record { objects = from_same (objects_of g) (objects_of h) a.objects; values = from_same (values_of g) (values_of h) a.values }
 
 -- a variable occurs where it is one of the arguments
 in_object : (g : Atom) (z : Arg) → In z (arguments_of g) → In z (objects_of g) ⊎ In z (values_of g)

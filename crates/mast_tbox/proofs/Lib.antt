@@ -1,6 +1,7 @@
 -- The lemmas, by topic.
 pub mod MemberLemmas
 pub mod EqualityLemmas
+pub mod HashLemmas
 pub mod WorkLemmas
 pub mod OnceLemmas
 pub mod BelowLemmas

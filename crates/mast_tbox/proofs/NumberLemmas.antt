@@ -50,6 +50,16 @@ below_at bound ls i d l h = (below_rest bound (slice_index_or ls i d) (drop (i +
 pub below_next : (bound : ℕ) (ls : List (Lined Inclusion)) (i : ℕ) (d : Lined Inclusion) → i < length ls → AllBelow bound (numbers (drop i ls)) → AllBelow bound (numbers (drop (i + 1) ls))
 below_next bound ls i d l h = (below_rest bound (slice_index_or ls i d) (drop (i + 1) ls) (subst (λ w. AllBelow bound (numbers w)) (drop_more ls i d l) h)).1
 
+-- so is that of each inclusion
+pub number_small : (bound : ℕ) (ls : List (Lined Inclusion)) (i : Inclusion) (k : ℕ) → AllBelow bound (numbers ls) → Contains (items ls) i → number_of i ≡ k ∷ [] → k < bound
+number_small bound [] i k h c e = absurd (none i c)
+number_small bound (l ∷ ls) i k h c e =
+    let w = below_front bound (number_of l.item) (numbers ls) h in
+    elim (first_or l.item (items ls) i c) [
+      | inl f ↦ (subst (AllBelow bound) (ap number_of (sym f) ∙ e) w.0).0
+      | inr d ↦ number_small bound ls i k w.1 d e
+    ]
+
 -- the numbers of the inclusions go up from n
 abbrev pub From : ℕ → List (Lined Inclusion) → Type 0
 From n ls = numbers ls ≡ counted n (numbers ls)

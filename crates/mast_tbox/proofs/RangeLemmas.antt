@@ -1,22 +1,26 @@
 -- Names in range: those of normal inclusions, and of the members of Down.
-use Rattle.std.proofs.Common.{ℕ, ◌⊎◌, inl, inr, List, [], ◌∷◌, Some, None, Contains, refl, sym, subst}
+use Rattle.std.proofs.Common.{◌≡◌, ℕ, ◌+◌, ◌<◌, ◌⊎◌, inl, inr, List, [], ◌∷◌, length, Option, Some, None, Contains, refl, sym, ap, subst, arith}
 use Rattle.mast_cq.specs.declared.atom.Arg.{Arg}
 use Rattle.mast_cq.specs.declared.atom.Atom.{Atom}
+use Rattle.mast_cq.specs.declared.atom.Atom.TheVariants.{Class, Role, Attr}
+use Rattle.mast_cq.specs.Origins.{NameBelow}
 use Rattle.mast_tbox.specs.declared.expression.RoleExpr.{RoleExpr}
 use Rattle.mast_tbox.specs.declared.expression.RoleExpr.TheVariants.{Direct, Inverse}
 use Rattle.mast_tbox.specs.declared.expression.Basic.{Basic}
 use Rattle.mast_tbox.specs.declared.expression.Basic.TheVariants.{Class as BClass, Some as BSome, Subjects}
 use Rattle.mast_tbox.specs.declared.expression.Prop.{Prop}
 use Rattle.mast_tbox.specs.declared.expression.Prop.TheVariants.{Role as PRole, Attr as PAttr}
+use Rattle.mast_tbox.specs.declared.axiom.Lined.{Lined}
 use Rattle.mast_tbox.specs.declared.axiom.Inclusion.{Inclusion}
 use Rattle.mast_tbox.specs.declared.axiom.Inclusion.TheVariants.{Class as IClass, Exists, HasValue, Role as IRole, Attr as IAttr, Range}
 use Rattle.mast_tbox.specs.Closure.{AtomStep, Down}
 use Rattle.mast_tbox.specs.Expressions.{pair, at}
-use Rattle.mast_tbox.specs.Inclusions.{auxiliary, normal_of, normal, Adds, States}
-use Rattle.mast_tbox.specs.Lists.{itself, onward}
-use Rattle.mast_tbox.specs.Names.{InRange, RoleInRange, BasicInRange, InclusionInRange, AreInRange, IsAuxiliary, AtomInRange}
+use Rattle.mast_tbox.specs.Inclusions.{first_auxiliary, auxiliary, normal_of, normal, Adds, States}
+use Rattle.mast_tbox.specs.Lists.{itself, onward, items}
+use Rattle.mast_tbox.specs.Names.{InRange, RoleInRange, BasicInRange, InclusionInRange, AreInRange, IsAuxiliary, AtomInRange, name_bounds}
+use Rattle.mast_tbox.specs.Numbers.{IsNumbered}
 use Rattle.mast_tbox.proofs.MemberLemmas.{none, first_or, only_one}
-use Rattle.mast_tbox.proofs.NumberLemmas.{source_of}
+use Rattle.mast_tbox.proofs.NumberLemmas.{source_of, number_small, numbers_below}
 
 module _ (tbox : List Inclusion) where
   -- the name of the role is in range, or the role is an auxiliary one
@@ -102,3 +106,13 @@ module _ (tbox : List Inclusion) where
     pub down_range : (g h : Atom) → AtomInRange tbox g → Down (normal tbox) g h → AtomInRange tbox h
     down_range g h i itself = i
     down_range g h i (onward {y = w} s d) = down_range w h (step_range g w s) d
+
+-- names in range, and auxiliary roles of numbered inclusions, are below the bounds
+pub range_bounded : (lines : List (Lined Inclusion)) → IsNumbered lines → (g : Atom) → AtomInRange (items lines) g → NameBelow (name_bounds (length lines)) g
+range_bounded lines n (Class a x) i = i
+range_bounded lines n (Role p x y) (inl i) = let l : p.0 < first_auxiliary = i in omega arith
+range_bounded lines n (Role p x y) (inr a) =
+    let l : a.number < length lines = number_small (length lines) lines (Exists a.sub a.role (Some a.end) a.number) a.number (numbers_below lines (length lines) n (omega arith)) a.stands refl in
+    let e : p.0 ≡ first_auxiliary + a.number = ap (λ m. m.0) a.is in
+    omega arith
+range_bounded lines n (Attr u x y) i = i

@@ -1,8 +1,9 @@
 -- The words of the laws: of relations, of sets of atoms, and of what is decided, finite or one.
-use Rattle.std.specs.Prelude.{◌≡◌, ℕ, List, [], ◌∷◌, ◌++◌, Bool, true, Option, None, Contains, ◌⊎◌, ◌↔◌}
+use Rattle.std.specs.Prelude.{◌≡◌, ℕ, List, [], ◌∷◌, ◌++◌, Bool, true, Option, None, Contains, ◌⊎◌, ◌↔◌, length}
 use Rattle.mast_terms.specs.declared.name.Name.{Name}
 use Rattle.mast_cq.specs.declared.atom.Atom.{Atom}
 use Rattle.mast_cq.specs.NormalForms.{Occurs, Twice}
+use Rattle.mast_cq.specs.Origins.{AtomDrawsFrom, NameBelow}
 use Rattle.mast_cq.specs.Sorts.{EachHasOneSort}
 use Rattle.mast_tbox.specs.declared.expression.Basic.{Basic}
 use Rattle.mast_tbox.specs.declared.expression.Prop.{Prop}
@@ -14,7 +15,8 @@ use Rattle.mast_tbox.specs.declared.constraint.Constraint.{Constraint}
 use Rattle.mast_tbox.specs.Arguments.{HaveSameArguments}
 use Rattle.mast_tbox.specs.Closure.{AtomStep, Down}
 use Rattle.mast_tbox.specs.Inclusions.{normal}
-use Rattle.mast_tbox.specs.Names.{AtomInRange, PropInRange}
+use Rattle.mast_tbox.specs.Lists.{items}
+use Rattle.mast_tbox.specs.Names.{AtomInRange, PropInRange, name_bounds}
 use Rattle.mast_tbox.specs.Numbers.{number_of}
 use Rattle.mast_tbox.specs.Properties.{IsBelow, AreEquivalent}
 use Rattle.mast_tbox.specs.Restrictions.{IsSpecialised, IsRestrictionBreach}
@@ -78,6 +80,10 @@ IsLeast tbox g = (set : Atom → Bool) → Has set g → IsClosed tbox (Has set)
 abbrev pub KeepsArguments : List Inclusion → Type 0
 KeepsArguments tbox = (g h : Atom) → Down tbox g h → HaveSameArguments g h
 
+-- a member of Down draws its arguments from its atom, as the atoms of a step have to
+abbrev pub DrawsArguments : List Inclusion → Type 0
+DrawsArguments tbox = (g h : Atom) → Down tbox g h → AtomDrawsFrom h g
+
 -- a variable that occurs in an atom occurs in each member of its Down, and no other does
 abbrev pub KeepsVariables : List Inclusion → Type 0
 KeepsVariables tbox = (n : ℕ) (g h : Atom) → Down tbox g h → Occurs n g ↔ Occurs n h
@@ -93,6 +99,10 @@ KeepsSorts tbox = (before after : List Atom) (g h : Atom) → Down tbox g h → 
 -- the members of Down by the normal inclusions have names in range, or auxiliary roles of the TBox, where their atom has
 abbrev pub KeepsRange : List Inclusion → Type 0
 KeepsRange tbox = (g h : Atom) → AtomInRange tbox g → Down (normal tbox) g h → AtomInRange tbox h
+
+-- atoms with names in range, or auxiliary roles, have names below these bounds
+abbrev pub RangeIsBounded : List (Lined Inclusion) → Type 0
+RangeIsBounded lines = (g : Atom) → AtomInRange (items lines) g → NameBelow (name_bounds (length lines)) g
 
 -- for names in range, a property is below another by the stated inclusions where it is by the normal ones
 abbrev pub BelowAgrees : List Inclusion → Type 0

@@ -3,6 +3,7 @@ pub mod Inclusions
 pub mod Lists
 pub mod Groups
 pub mod Numbers
+pub mod Hashes
 pub mod Names
 pub mod Arguments
 pub mod Closure

@@ -1,6 +1,8 @@
 -- Names in range: those that documents may use, and the auxiliary roles of a TBox.
-use Rattle.std.specs.Prelude.{◌≡◌, ℕ, ◌<◌, List, Option, Some, None, Contains, ◌⊎◌}
+use Rattle.std.specs.Prelude.{◌≡◌, ℕ, ◌+◌, ◌<◌, List, Option, Some, None, Contains, ◌⊎◌}
 use Rattle.mast_terms.specs.declared.name.Name.{Name}
+use Rattle.mast_terms.specs.declared.name.NameKind.{NameKind}
+use Rattle.mast_terms.specs.declared.name.NameKind.TheVariants as kinds
 use Rattle.mast_cq.specs.declared.atom.Atom.{Atom}
 use Rattle.mast_cq.specs.declared.atom.Atom.TheVariants.{Class, Role, Attr}
 use Rattle.mast_tbox.specs.declared.expression.RoleExpr.{RoleExpr}
@@ -65,3 +67,9 @@ abbrev pub AtomInRange : List Inclusion → Atom → Type 0
 AtomInRange tbox (Class a x) = InRange a
 AtomInRange tbox (Role p x y) = InRange p ⊎ IsAuxiliary tbox p
 AtomInRange tbox (Attr u x y) = InRange u
+
+-- more than the number of each name of a kind, where fewer existential inclusions than the count are numbered
+abbrev pub name_bounds : ℕ → NameKind → ℕ
+name_bounds count kinds.Class = first_auxiliary
+name_bounds count kinds.Role = first_auxiliary + count
+name_bounds count kinds.Attr = first_auxiliary

@@ -1,11 +1,14 @@
 //! What axioms speak of: roles and their inverses, basic concepts, and properties.
 ghost use Rattle.std.specs.Prelude.{◌≡◌, true, ◌↔◌};
+ghost use Rattle.mast_terms.specs.Hashes.{TellsApart};
+ghost use Rattle.mast_tbox.specs.Hashes.{FitsBasic, FitsProp};
 ghost use Rattle.mast_tbox.specs.Expressions.{inverse_role as inverse_role_of, inverse as inverse_of, at as at_of, pair as pair_of, same_basic, same_prop};
 ghost use Rattle.mast_tbox.specs.declared.expression.Basic.{Basic};
 ghost use Rattle.mast_tbox.specs.declared.expression.Prop.{Prop};
 
 use mast_cq::{Arg, Atom};
 use mast_terms::Name;
+use std::hash::Hash;
 
 /// A role or the inverse of a role.
 #[derive(Clone, Copy, Debug, PartialEq, Eq, Hash)]
@@ -92,14 +95,16 @@ impl Basic {
     }
 }
 
-/// `==` holds exactly of equal basic concepts.
+/// `==` holds exactly of equal basic concepts, and what a hasher is fed tells each from every other.
 pub fn basic_laws()
     ensures test { (b c : Basic) → ⟦<Basic as PartialEq>⟧.eq b c ≡ same_basic b c }
     ensures equal { (b c : Basic) → (same_basic b c ≡ true) ↔ (b ≡ c) }
+    ensures hash { TellsApart FitsBasic ⟦<Basic as Hash>⟧.hash_input }
 {}
 
-/// `==` holds exactly of equal properties.
+/// `==` holds exactly of equal properties, and what a hasher is fed tells each from every other.
 pub fn prop_laws()
     ensures test { (p q : Prop) → ⟦<Prop as PartialEq>⟧.eq p q ≡ same_prop p q }
     ensures equal { (p q : Prop) → (same_prop p q ≡ true) ↔ (p ≡ q) }
+    ensures hash { TellsApart FitsProp ⟦<Prop as Hash>⟧.hash_input }
 {}
