@@ -10,7 +10,8 @@ use Rattle.mast_tables.specs.declared.declaration.Column.{Column}
 use Rattle.mast_tables.specs.Breach.{IsRow, AreRows, HasRows}
 use Rattle.mast_tables.specs.Records.{Record}
 use Rattle.mast_tables.specs.Rows.{Row, IsPlace}
-use Rattle.mast_cli.specs.Columns.{AreColumns, AreWide, bytes_of, number_of}
+use Rattle.mast_cli.specs.Columns.{number_of}
+use Rattle.mast_cli.specs.inside.Tables.{AreColumns, AreWide, bytes_of}
 
 -- a row of rows of one width has that width
 wide_at : (width : ℕ) (rows : List Row) → AreWide width rows → (i : ℕ) → i < length rows → length (get_or rows i []) ≡ width

@@ -7,8 +7,9 @@ use Rattle.std.specs.List.{concat}
 use Rattle.mast_terms.specs.declared.value.Value.{Value}
 use Rattle.mast_tables.specs.Rows.{Row}
 use Rattle.mast_cli.specs.declared.mapping.Mapping.{Mapping}
-use Rattle.mast_cli.specs.Facts.{Fact, cells_in, fact_of, Supports, fact_line, IsFactLine, all_values, lines_from, row_lines, rows_lines}
-use Rattle.mast_cli.specs.LinesText.{pieces, lines_text, IsTextOf, IsSetOf}
+use Rattle.mast_cli.specs.Facts.{Fact, cells_in, fact_of, Supports, fact_line, IsFactLine}
+use Rattle.mast_cli.specs.LinesText.{lines_text, IsTextOf}
+use Rattle.mast_cli.specs.inside.FactLines.{all_values, lines_from, row_lines, rows_lines, pieces, IsSetOf}
 use Rattle.mast_cli.proofs.LinesLemmas.{pieces_concat}
 
 -- cells that are all there have their values
@@ -41,13 +42,13 @@ one_line : (only line : List ℕ) (k : ℕ) → k < 1 → get_or (only ∷ []) k
 one_line only line zero lt is = sym is
 one_line only line (suc k) lt is = absurd (omega arith)
 
-row_found : (m : Mapping) (row : Row) (rows : List Row) (line : List ℕ) (found : Option (List Value)) → all_values (cells_in m.slots.items row) ≡ found → Contains (lines_from m found) line → IsLineAt m (row ∷ rows) line
+row_found : (m : Mapping) (row : Row) (rows : List Row) (line : List ℕ) (found : Option (List Value)) → all_values (cells_in m.slots row) ≡ found → Contains (lines_from m found) line → IsLineAt m (row ∷ rows) line
 row_found m row rows line None q h = absurd (omega (h.1, arith))
 row_found m row rows line (Some args) q h = record {
   row = 0;
   within = omega arith;
   fact = fact_of m args;
-  supports = record { args = args; cells = values_only (cells_in m.slots.items row) args q; is = refl };
+  supports = record { args = args; cells = values_only (cells_in m.slots row) args q; is = refl };
   is = one_line (fact_line (fact_of m args)) line h.0 h.1 h.2;
 }
 
@@ -55,7 +56,7 @@ found_later : (m : Mapping) (row : Row) (rows : List Row) (line : List ℕ) → 
 found_later m row rows line h = record { row = suc h.row; within = omega (h.within, arith); fact = h.fact; supports = h.supports; is = h.is }
 
 found_either : (m : Mapping) (row : Row) (rows : List Row) (line : List ℕ) → Contains (row_lines m row) line ⊎ Contains (rows_lines m rows) line → (Contains (rows_lines m rows) line → IsLineAt m rows line) → IsLineAt m (row ∷ rows) line
-found_either m row rows line (inl h) ih = row_found m row rows line (all_values (cells_in m.slots.items row)) refl h
+found_either m row rows line (inl h) ih = row_found m row rows line (all_values (cells_in m.slots row)) refl h
 found_either m row rows line (inr h) ih = found_later m row rows line (ih h)
 
 line_found : (m : Mapping) (rows : List Row) (line : List ℕ) → Contains (rows_lines m rows) line → IsLineAt m rows line

@@ -1,10 +1,13 @@
 mod ColumnsLemmas
 mod FactsLemmas
 mod FormLemmas
+mod GivenLemmas
 mod LinesLemmas
 mod MappingLemmas
 mod OutcomeLemmas
 mod QueryLemmas
+mod SetLemmas
+mod SomeOutcomeLemmas
 mod TellingLemmas
 mod TextLemmas
 mod TokensLemmas

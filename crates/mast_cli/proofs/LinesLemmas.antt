@@ -9,7 +9,7 @@ use Rattle.std.specs.List.{concat, dedup, dedup_from, AllByRecursion}
 use Rattle.std.specs.List.Sorted.{IsStrictlySortedBy}
 use Rattle.std.specs.List.Retain.{IsFiltered, DiffersFromLast}
 use Rattle.std.specs.Cmp.Lexicographic.{slice_cmp, pointwise, bytes_decides, on_texts, texts_ties}
-use Rattle.mast_cli.specs.LinesText.{pieces, IsSetOf}
+use Rattle.mast_cli.specs.inside.FactLines.{pieces, IsSetOf}
 
 -- lines are the pieces of what they make together
 pub pieces_concat : (lines : List (List ℕ)) → pieces (map length lines) (concat lines) ≡ lines

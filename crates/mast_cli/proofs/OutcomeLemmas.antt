@@ -15,6 +15,7 @@ use Rattle.mast_tables.proofs.OnceLemmas.{file_rows_once, file_breach_once}
 use Rattle.mast_tables.proofs.BreachLemmas.{file_fits}
 use Rattle.mast_files.specs.Outside.{Contents}
 use Rattle.mast_terms.specs.declared.term.Term.TheVariants as t
+use Rattle.mast_cli.specs.declared.limits.TheConstants.{ROWS}
 use Rattle.mast_cli.specs.declared.mapping.Mapping.{Mapping}
 use Rattle.mast_cli.specs.declared.status.Status.{Status}
 use Rattle.mast_cli.specs.Endings.{IsOf}
@@ -24,7 +25,7 @@ use Rattle.mast_cli.specs.Lines as lines
 use Rattle.mast_cli.specs.Lines.{Event}
 use Rattle.mast_cli.specs.MappingForm.{Said, said}
 use Rattle.mast_cli.specs.Mappings.{IsForm}
-use Rattle.mast_cli.specs.Outcome.{Declares, DocumentEvent, MappingsEvent, HasMapping, TableEvent, HasTable, RowsOutcome, FactsOutcome, most_rows}
+use Rattle.mast_cli.specs.Outcome.{Declares, DocumentEvent, MappingsEvent, HasMapping, TableEvent, HasTable, RowsOutcome, FactsOutcome}
 use Rattle.mast_cli.specs.Words.{task_of}
 use Rattle.mast_cli.proofs.FormLemmas.{one_said}
 use Rattle.mast_cli.proofs.TextLemmas.{one_text}
@@ -98,11 +99,11 @@ one_table_event table content status other text next (inr h) (inl g) = let long 
 one_table_event table content status other text next (inr h) (inr g) =
     let a = h.1 in
     let b = g.1 in
-    same_event (lines.row_event table.name a.0) (lines.row_event table.name b.0) status other text next (ap (λ x. lines.row_event table.name x) (file_breach_once table.columns most_rows (records_of content) a.0 b.0 a.1 b.1)) a.2 b.2
+    same_event (lines.row_event table.name a.0) (lines.row_event table.name b.0) status other text next (ap (λ x. lines.row_event table.name x) (file_breach_once table.columns ROWS (records_of content) a.0 b.0 a.1 b.1)) a.2 b.2
 
 table_event_or_rows : (table : TableDecl) (content : List ℕ) (rows : List Row) (status : Status) (text : List ℕ) → TableEvent table content status text → HasTable table content rows → ⊥
 table_event_or_rows table content rows status text (inl h) g = let long = h.0 in let short = g.0 in absurd (omega arith)
-table_event_or_rows table content rows status text (inr h) g = let a = h.1 in file_fits table.columns most_rows (records_of content) rows a.0 g.1 a.1
+table_event_or_rows table content rows status text (inr h) g = let a = h.1 in file_fits table.columns ROWS (records_of content) rows a.0 g.1 a.1
 
 -- the facts of mappings that say one thing
 
@@ -129,7 +130,7 @@ one_rows_outcome a b content status other text next e (inr h) (inl g) =
     absurd (table_event_or_rows a.table content h.0 other next (subst (λ t. TableEvent t content other next) (ap (λ (s : Said). s.table) (sym e)) g) h.1)
 one_rows_outcome a b content status other text next e (inr h) (inr g) =
     let there = subst (λ t. HasTable t content g.0) (ap (λ (s : Said). s.table) (sym e)) g.1 in
-    let rows = file_rows_once a.table.columns most_rows (records_of content) h.0 g.0 h.1.1 there.1 in (
+    let rows = file_rows_once a.table.columns ROWS (records_of content) h.0 g.0 h.1.1 there.1 in (
       h.2 ∙ sym g.2,
       one_text (IsFactLine a h.0) (IsFactLine b g.0) text next
           (λ l x. line_moved a b g.0 e l (subst (λ rs. IsFactLine a rs l) rows x))

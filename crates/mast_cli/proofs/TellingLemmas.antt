@@ -12,21 +12,22 @@ use Rattle.mast_cli.specs.Endings.{IsOf}
 use Rattle.mast_cli.specs.Lines.{unbuilt}
 use Rattle.mast_cli.specs.MappingForm.{Said, said}
 use Rattle.mast_cli.specs.Mappings.{IsForm}
+use Rattle.mast_files.specs.Causes.{Rose}
 use Rattle.mast_files.specs.Outside.{Contents, Reading, Gains}
 use Rattle.mast_tables.specs.Rows.{Row}
 use Rattle.mast_cli.specs.declared.judged.Judged.{Judged}
 use Rattle.mast_cli.specs.declared.judged.Stage.{Stage}
 use Rattle.mast_cli.specs.declared.judged.Stage.TheVariants as stage
+use Rattle.mast_cli.specs.declared.limits.TheConstants.{MAPPING_BYTES}
 use Rattle.mast_cli.specs.declared.mapping.Mapping.{Mapping}
 use Rattle.mast_cli.specs.declared.status.Status.{Status}
 use Rattle.mast_cli.specs.declared.status.Status.TheVariants as st
-use Rattle.mast_cli.specs.Causes.{HasCause, JudgedHasCause, StageIsEvent}
+use Rattle.mast_cli.specs.inside.Causes.{HasCause, JudgedHasCause, StageIsEvent}
 use Rattle.mast_cli.specs.Facts.{IsFactLine}
-use Rattle.mast_cli.specs.Headline.{IsAnswer, FailedFile}
+use Rattle.mast_cli.specs.Run.{IsAnswer, FailedFile, GivesOutcome, GivesFront, GivesPart}
 use Rattle.mast_cli.specs.LinesText.{IsTextOf}
-use Rattle.mast_cli.specs.Outcome.{Declares, DocumentEvent, HasMapping, MappingsEvent, HasTable, TableEvent, FactsOutcome, JudgesOf, Outcome, Judges, most_mapping_bytes}
-use Rattle.mast_cli.specs.Telling.{EndsAs, TellsBytes, TellsFile, TellsFacts, TellsRun}
-use Rattle.mast_cli.specs.Told.{WritesOutcome, GivesFront, WritesPart}
+use Rattle.mast_cli.specs.Outcome.{Declares, DocumentEvent, HasMapping, MappingsEvent, HasTable, TableEvent, FactsOutcome, JudgesOf, Outcome, Judges}
+use Rattle.mast_cli.specs.inside.Telling.{EndsAs, TellsBytes, TellsFile, TellsFacts, TellsRun}
 
 -- an event ends a run as P
 pub ends_event : (P : Status → List ℕ → Type 0) (Q : List ℕ → Type 0) (reading : Reading) (status : Status) (text : List ℕ) → IsAnswer status → P status text → EndsAs P Q reading status text
@@ -59,14 +60,14 @@ file_of Has Has' Event Event' name reading (stage.Ended judged) has event answer
 
 -- what a mapping document's bytes tell is told of its file
 pub mappings_told : (told : Option Contents) (name bytes items : List ℕ) (rest : Option (List ℕ)) (reading : Reading) (r : Result (Stage Mapping) NoMemory)
-    → bytes ≡ items → IfSome told (λ contents. (items ≡ contents name) × (rest ≡ Some [])) → length items ≤ most_mapping_bytes
+    → bytes ≡ items → IfSome told (λ contents. (items ≡ contents name) × (rest ≡ Some [])) → length items ≤ MAPPING_BYTES
     → IfOk r (TellsBytes (Declares bytes) (DocumentEvent bytes)) → IfOk r StageIsEvent
     → IfOk r (λ what. IfSome told (λ contents. TellsFile (HasMapping (contents name)) (MappingsEvent (contents name)) name reading what))
 mappings_told told name bytes items rest reading (Err e) same read within tells event = tt
 mappings_told None name bytes items rest reading (Ok what) same read within tells event = tt
 mappings_told (Some contents) name bytes items rest reading (Ok what) same read within tells event =
     let all = same ∙ read.0 in
-    let few : length bytes ≤ most_mapping_bytes = subst (λ b. length b ≤ most_mapping_bytes) (sym same) within in
+    let few : length bytes ≤ MAPPING_BYTES = subst (λ b. length b ≤ MAPPING_BYTES) (sym same) within in
     file_of (Declares bytes) (HasMapping (contents name)) (DocumentEvent bytes) (MappingsEvent (contents name)) name reading what
     (λ mapping h. subst (λ b. HasMapping b mapping) all (few, h))
     (λ status text h. subst (λ b. MappingsEvent b status text) all (inr (few, h)))
@@ -77,7 +78,7 @@ pub table_ended : (told later : Option Contents) (file : List ℕ) (before readi
     → later ≡ told → first ≡ stage.Read mapping → second ≡ stage.Ended judged
     → IfSome told (λ contents. TellsFile (HasMapping (contents file)) (MappingsEvent (contents file)) file before first)
     → IfSome later (λ contents. TellsFile (HasTable mapping.table (contents mapping.table.file)) (TableEvent mapping.table (contents mapping.table.file)) mapping.table.file reading second)
-    → IfSome told (λ contents. TellsFacts contents file reading judged)
+    → IfSome told (λ contents. TellsFacts file reading contents judged)
 table_ended None later file before reading first mapping second judged kept read ended mappings table = tt
 table_ended (Some contents) later file before reading first mapping second judged kept read ended mappings table =
     let has = subst (λ s. TellsFile (HasMapping (contents file)) (MappingsEvent (contents file)) file before s) read mappings in
@@ -114,8 +115,8 @@ ends_answer P Q reading st.NoMemory text a h = absurd a
 
 -- the text of an answer that went out whole is that of the outcome
 pub run_outcome : (told : Option Contents) (words : List (List ℕ)) (reading : Reading) (judged : Judged) (old new : Option (List ℕ)) (bytes : List ℕ)
-    → bytes ≡ judged.text.items → Gains old new bytes → IfSome told (λ contents. TellsRun words contents reading judged) → IsAnswer judged.status
-    → IfSome told (λ contents. WritesOutcome words contents judged.status old new)
+    → bytes ≡ judged.text.items → Gains old new bytes → IfSome told (λ contents. TellsRun words reading contents judged) → IsAnswer judged.status
+    → IfSome told (λ contents. GivesOutcome words contents judged.status old new)
 run_outcome None words reading judged old new bytes same gains tells answer = tt
 run_outcome (Some contents) words reading judged old new bytes same gains tells answer =
     (judged.text.items, ends_answer (Outcome words contents) (Judges words contents) reading judged.status judged.text.items answer tells, subst (λ b. Gains old new b) same gains)
@@ -129,7 +130,7 @@ place_of words contents before now reading status text e tells cause =
 
 -- the file of a read fault is one that the run judges
 pub run_place : (told : Option Contents) (words : List (List ℕ)) (before now : ℕ) (reading : Reading) (judged : Judged)
-    → IfSome told (λ contents. TellsRun words contents reading judged) → JudgedHasCause before now reading judged → judged.status ≡ st.ReadFault
+    → IfSome told (λ contents. TellsRun words reading contents judged) → JudgedHasCause before now reading judged → judged.status ≡ st.ReadFault
     → IfSome told (λ contents. FailedFile reading (Judges words contents))
 run_place None words before now reading judged tells cause e = tt
 run_place (Some contents) words before now reading judged tells cause e = place_of words contents before now reading judged.status judged.text.items e tells cause
@@ -139,7 +140,7 @@ one_name o a b e f = let both : Some b ≡ Some a = sym f ∙ e in cc
 
 part_of : (words : List (List ℕ)) (contents : Contents) (before now : ℕ) (reading : Reading) (old new : Option (List ℕ)) (status : Status) (text : List ℕ)
     → EndsAs (Outcome words contents) (Judges words contents) reading status text → HasCause before now reading status text → GivesFront old new text
-    → WritesPart words contents reading before now old new
+    → GivesPart words contents reading (Rose before now) (GivesFront old new)
 part_of words contents before now reading old new st.Done text h cause front = inl (st.Done, text, h, front)
 part_of words contents before now reading old new st.Usage text h cause front = inl (st.Usage, text, h, front)
 part_of words contents before now reading old new st.Refused text h cause front = inl (st.Refused, text, h, front)
@@ -154,8 +155,8 @@ part_of words contents before now reading old new st.NoMemory text h cause front
 -- what went out before a write fault is a front of a text that was to be written
 pub run_part : (told : Option Contents) (words : List (List ℕ)) (before now : ℕ) (reading : Reading) (judged : Judged) (old new : Option (List ℕ)) (bytes : List ℕ) (gone : ℕ)
     → bytes ≡ judged.text.items → Gains old new (take gone bytes)
-    → IfSome told (λ contents. TellsRun words contents reading judged) → JudgedHasCause before now reading judged
-    → IfSome told (λ contents. WritesPart words contents reading before now old new)
+    → IfSome told (λ contents. TellsRun words reading contents judged) → JudgedHasCause before now reading judged
+    → IfSome told (λ contents. GivesPart words contents reading (Rose before now) (GivesFront old new))
 run_part None words before now reading judged old new bytes gone same gains tells cause = tt
 run_part (Some contents) words before now reading judged old new bytes gone same gains tells cause =
     part_of words contents before now reading old new judged.status judged.text.items tells cause (gone, subst (λ b. Gains old new (take gone b)) same gains)

@@ -6,25 +6,31 @@ use Rattle.std.specs.List.Sorted.{IsStrictlySortedBy}
 use Rattle.std.specs.Cmp.Lexicographic.{slice_cmp, nat_list_cmp_total}
 use Rattle.mast_cli.specs.LinesText.{lines_text, IsTextOf}
 
-abbrev Line : Type 0
+-- a line
+abbrev pub Line : Type 0
 Line = List ℕ
 
-abbrev order : Line → Line → Ordering
+-- lines are ordered by their bytes
+abbrev pub order : Line → Line → Ordering
 order = slice_cmp nat_cmp
 
 -- members of a list
 
-first_or_later : (y x : Line) (ys : List Line) (k : ℕ) → k < length (y ∷ ys) → slice_index_or (y ∷ ys) k x ≡ x → (y ≡ x) ⊎ Contains ys x
+-- a member of a list is its first or one of the others
+pub first_or_later : (y x : Line) (ys : List Line) (k : ℕ) → k < length (y ∷ ys) → slice_index_or (y ∷ ys) k x ≡ x → (y ≡ x) ⊎ Contains ys x
 first_or_later y x ys zero less e = inl e
 first_or_later y x ys (suc k) less e = inr (k, (omega arith), e)
 
-first_in : (y : Line) (ys : List Line) → Contains (y ∷ ys) y
+-- the first is a member
+pub first_in : (y : Line) (ys : List Line) → Contains (y ∷ ys) y
 first_in y ys = (zero, (omega arith), refl)
 
-later_in : (y x : Line) (ys : List Line) → Contains ys x → Contains (y ∷ ys) x
+-- the others are members
+pub later_in : (y x : Line) (ys : List Line) → Contains ys x → Contains (y ∷ ys) x
 later_in y x ys h = (suc h.0, (let less = h.1 in omega arith), h.2)
 
-none_in : (x : Line) → Contains [] x → ⊥
+-- the empty list has no member
+pub none_in : (x : Line) → Contains [] x → ⊥
 none_in x h = let less = h.1 in absurd (omega arith)
 
 all_of : (P : Line → Type 0) (ys : List Line) → AllByRecursion P ys → (x : Line) (k : ℕ) → k < length ys → slice_index_or ys k x ≡ x → P x

@@ -1,5 +1,5 @@
 -- The facts that rows give.
-use Rattle.std.specs.Prelude.{◌≡◌, ◌≤◌, ◌-◌, ⊤, ℕ, List, [], ◌∷◌, ◌++◌, Option, Some, None, length, map, get_or, option_map}
+use Rattle.std.specs.Prelude.{◌≡◌, ◌≤◌, ◌-◌, ⊤, ℕ, List, [], ◌++◌, Option, Some, None, length, map, get_or, codes}
 use Rattle.mast_terms.specs.declared.value.Value.{Value}
 use Rattle.mast_terms.specs.declared.term.Object.{Object}
 use Rattle.mast_terms.specs.declared.term.Term.{Term}
@@ -28,7 +28,7 @@ fact_of mapping args = record { class = mapping.class; object = t.Object (object
 -- the row is a support of the fact: the arguments are its cells in the slots, none of which is missing
 pub record Supports (mapping : Mapping) (row : Row) (fact : Fact) : Type 0 where
   pub args : List Value
-  pub cells : cells_in mapping.slots.items row ≡ map (λ value. Some value) args
+  pub cells : cells_in mapping.slots row ≡ map (λ value. Some value) args
   pub is : fact ≡ fact_of mapping args
 
 -- the facts of a set of rows, by their numbers from 1: those that have a support in it
@@ -45,7 +45,7 @@ AllRows row = ⊤
 
 -- the line of a fact: `<CLASS>(OBJECT)`
 abbrev pub fact_line : Fact → List ℕ
-fact_line fact = 60 ∷ (fact.class ++ 62 ∷ 40 ∷ (term_text fact.object ++ 41 ∷ []))
+fact_line fact = codes "<" ++ (fact.class ++ (codes ">(" ++ (term_text fact.object ++ codes ")")))
 
 -- the line of one of these facts
 pub record IsLineOf (IsFact : Fact → Type 0) (line : List ℕ) : Type 0 where
@@ -56,23 +56,3 @@ pub record IsLineOf (IsFact : Fact → Type 0) (line : List ℕ) : Type 0 where
 -- the line of a fact of the tables
 abbrev pub IsFactLine : Mapping → List Row → List ℕ → Type 0
 IsFactLine mapping rows line = IsLineOf (IsFactWithin AllRows mapping rows) line
-
--- the values of cells, and None where one is missing
-abbrev pub all_values : List (Option Value) → Option (List Value)
-all_values [] = Some []
-all_values (None ∷ cells) = None
-all_values (Some value ∷ cells) = option_map (λ values. value ∷ values) (all_values cells)
-
--- the line of the fact of these arguments, or no line
-abbrev pub lines_from : Mapping → Option (List Value) → List (List ℕ)
-lines_from mapping None = []
-lines_from mapping (Some args) = fact_line (fact_of mapping args) ∷ []
-
--- the line of the fact that a row supports, or no line
-abbrev pub row_lines : Mapping → Row → List (List ℕ)
-row_lines mapping row = lines_from mapping (all_values (cells_in mapping.slots.items row))
-
--- the lines of the facts that rows support, row by row
-abbrev pub rows_lines : Mapping → List Row → List (List ℕ)
-rows_lines mapping [] = []
-rows_lines mapping (row ∷ rows) = row_lines mapping row ++ rows_lines mapping rows

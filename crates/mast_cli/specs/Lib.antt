@@ -1,9 +1,8 @@
-pub mod Causes
 pub mod Codes
 pub mod Columns
 pub mod Endings
 pub mod Facts
-pub mod Headline
+pub mod Given
 pub mod Laws
 pub mod Lines
 pub mod LinesText
@@ -11,6 +10,6 @@ pub mod MappingForm
 pub mod Mappings
 pub mod Outcome
 pub mod Queries
-pub mod Telling
-pub mod Told
+pub mod Run
 pub mod Words
+pub mod inside

@@ -1,5 +1,5 @@
 -- The text of a set of lines.
-use Rattle.std.specs.Prelude.{◌≡◌, ℕ, List, [], ◌∷◌, ◌++◌, take, drop, Contains}
+use Rattle.std.specs.Prelude.{◌≡◌, ℕ, List, [], ◌∷◌, ◌++◌, codes, Contains}
 use Rattle.std.specs.Ordering.{nat_cmp}
 use Rattle.std.specs.List.Sorted.{IsStrictlySortedBy}
 use Rattle.std.specs.Cmp.Lexicographic.{slice_cmp}
@@ -7,7 +7,7 @@ use Rattle.std.specs.Cmp.Lexicographic.{slice_cmp}
 -- the lines in order, each with its line feed
 abbrev pub lines_text : List (List ℕ) → List ℕ
 lines_text [] = []
-lines_text (line ∷ lines) = line ++ 10 ∷ lines_text lines
+lines_text (line ∷ lines) = line ++ (codes "\n" ++ lines_text lines)
 
 -- the text of a set of lines: the members sorted by their bytes, each once
 pub record IsTextOf (IsLine : List ℕ → Type 0) (text : List ℕ) : Type 0 where
@@ -16,14 +16,3 @@ pub record IsTextOf (IsLine : List ℕ → Type 0) (text : List ℕ) : Type 0 wh
   pub each : (line : List ℕ) → Contains lines line → IsLine line
   pub all : (line : List ℕ) → IsLine line → Contains lines line
   pub is : text ≡ lines_text lines
-
--- the pieces of these lengths, one after the other
-abbrev pub pieces : List ℕ → List ℕ → List (List ℕ)
-pieces [] bytes = []
-pieces (n ∷ ns) bytes = take n bytes ∷ pieces ns (drop n bytes)
-
--- the same lines, sorted by their bytes, each once
-pub record IsSetOf (old new : List (List ℕ)) : Type 0 where
-  pub sorted : IsStrictlySortedBy (slice_cmp nat_cmp) new
-  pub each : (line : List ℕ) → Contains new line → Contains old line
-  pub all : (line : List ℕ) → Contains old line → Contains new line

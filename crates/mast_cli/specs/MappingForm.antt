@@ -257,4 +257,4 @@ form_of source tokens items = after_front source tokens (front source tokens (co
 
 -- the same of the code's value
 abbrev pub said : Mapping → Said
-said mapping = record { table = mapping.table; class = mapping.class; symbol = mapping.symbol; slots = mapping.slots.items }
+said mapping = record { table = mapping.table; class = mapping.class; symbol = mapping.symbol; slots = mapping.slots }

@@ -1,16 +1,11 @@
 -- What a mapping document says.
-use Rattle.std.specs.Prelude.{◌≡◌, ◌<◌, ℕ, List, [], ◌∷◌, length, Some, codes}
+use Rattle.std.specs.Prelude.{◌≡◌, ℕ, List, [], ◌∷◌, Some, codes}
 use Rattle.mast_tree.specs.declared.item.Item.{Item}
 use Rattle.mast_tree.specs.declared.token.Token.{Token}
 use Rattle.mast_tree.specs.PrefixNodes.{IsFront}
-use Rattle.mast_cli.specs.declared.mapping.Mapping.{Mapping}
-use Rattle.mast_cli.specs.Columns.{AreColumns, names_of}
+use Rattle.mast_cli.specs.Columns.{names_of}
 use Rattle.mast_cli.specs.MappingForm.{Said, node_of, identifier_of, string_of, table_in, slots_after, class_of, main_of}
 use Rattle.mast_cli.specs.Queries.{IsQuery}
-
--- the slots of a mapping are columns of its table, of which there are few enough to be numbered
-abbrev pub FitsTable : Mapping → Type 0
-FitsTable mapping = (length mapping.table.columns < 4294967295) × AreColumns (length mapping.table.columns) mapping.slots.items
 
 -- a document is of the form that is read so far, and this is what it says
 pub record IsForm (source : List ℕ) (tokens : List Token) (items : List Item) (said : Said) : Type 0 where

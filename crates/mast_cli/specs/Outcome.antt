@@ -1,5 +1,6 @@
 -- What a run answers, by its words and the contents of its files.
 use Rattle.std.specs.Prelude.{◌≡◌, ◌⊎◌, ◌<◌, ◌≤◌, ℕ, List, length, Some, None}
+use Rattle.mast_cli.specs.declared.limits.TheConstants.{MAPPING_BYTES, TABLE_BYTES, ROWS}
 use Rattle.mast_cli.specs.declared.mapping.Mapping.{Mapping}
 use Rattle.mast_cli.specs.declared.status.Status.{Status}
 use Rattle.mast_cli.specs.declared.status.Status.TheVariants as st
@@ -24,62 +25,64 @@ use Rattle.mast_cli.specs.MappingForm.{Said, said}
 use Rattle.mast_cli.specs.Mappings.{IsForm}
 use Rattle.mast_cli.specs.Words.{task_of}
 
--- the greatest numbers of bytes of a mapping document and of a table file, and of rows
-abbrev pub most_mapping_bytes : ℕ
-most_mapping_bytes = 16777216
-
-abbrev pub most_table_bytes : ℕ
-most_table_bytes = 134217728
-
-abbrev pub most_rows : ℕ
-most_rows = 2000000
-
 -- bytes of a mapping document that declares this mapping
 abbrev pub Declares : List ℕ → Mapping → Type 0
-Declares bytes mapping = (tokens : List Token) × (items : List Item) × AreTokens bytes tokens × IsTree tokens items × IsForm bytes tokens items (said mapping)
+Declares bytes mapping =
+    (tokens : List Token) × (items : List Item)
+    × AreTokens bytes tokens × IsTree tokens items × IsForm bytes tokens items (said mapping)
 
--- the first event of a mapping document's bytes, but for their number: a lexical breach, a tree breach, or a form that is not built
+-- a document of no form that is read so far
+abbrev pub IsNoForm : List ℕ → List Token → List Item → Type 0
+IsNoForm bytes tokens items = (what : Said) → IsForm bytes tokens items what → ⊥
+
+-- the first event of a mapping document's bytes, but for their number: a lexical breach, a tree breach, or no form
 abbrev pub DocumentEvent : List ℕ → Status → List ℕ → Type 0
 DocumentEvent bytes status text =
     ((breach : LexBreach) × IsLexBreach bytes breach × IsOf (lines.lex_event doc.Mappings breach) status text)
-    ⊎ (((tokens : List Token) × (breach : TreeBreach) × AreTokens bytes tokens × IsTreeBreach tokens breach × IsOf (lines.tree_event doc.Mappings breach) status text)
-    ⊎ ((tokens : List Token) × (items : List Item) × AreTokens bytes tokens × IsTree tokens items × ((what : Said) → IsForm bytes tokens items what → ⊥) × IsOf lines.unbuilt status text))
+    ⊎ (((tokens : List Token) × (breach : TreeBreach)
+    × AreTokens bytes tokens × IsTreeBreach tokens breach × IsOf (lines.tree_event doc.Mappings breach) status text)
+    ⊎ ((tokens : List Token) × (items : List Item)
+    × AreTokens bytes tokens × IsTree tokens items × IsNoForm bytes tokens items × IsOf lines.unbuilt status text))
 
 -- the first event of a mapping document
 abbrev pub MappingsEvent : List ℕ → Status → List ℕ → Type 0
 MappingsEvent content status text =
-    ((most_mapping_bytes < length content) × IsOf (lines.doc_too_long doc.Mappings) status text)
-    ⊎ ((length content ≤ most_mapping_bytes) × DocumentEvent content status text)
+    ((MAPPING_BYTES < length content) × IsOf (lines.doc_too_long doc.Mappings) status text)
+    ⊎ ((length content ≤ MAPPING_BYTES) × DocumentEvent content status text)
 
 -- a mapping document without an event, and the mapping that it declares
 abbrev pub HasMapping : List ℕ → Mapping → Type 0
-HasMapping content mapping = (length content ≤ most_mapping_bytes) × Declares content mapping
+HasMapping content mapping = (length content ≤ MAPPING_BYTES) × Declares content mapping
 
 -- the first event of a table file's bytes, but for their number
 abbrev pub RecordsEvent : TableDecl → List ℕ → Status → List ℕ → Type 0
-RecordsEvent table bytes status text = (breach : RowBreach) × HasBreach table.columns most_rows (records_of bytes) breach × IsOf (lines.row_event table.name breach) status text
+RecordsEvent table bytes status text =
+    (breach : RowBreach)
+    × HasBreach table.columns ROWS (records_of bytes) breach × IsOf (lines.row_event table.name breach) status text
 
 -- the first event of a table file
 abbrev pub TableEvent : TableDecl → List ℕ → Status → List ℕ → Type 0
 TableEvent table content status text =
-    ((most_table_bytes < length content) × IsOf (lines.table_too_long table.name) status text)
-    ⊎ ((length content ≤ most_table_bytes) × RecordsEvent table content status text)
+    ((TABLE_BYTES < length content) × IsOf (lines.table_too_long table.name) status text)
+    ⊎ ((length content ≤ TABLE_BYTES) × RecordsEvent table content status text)
 
 -- a table file without an event, and its rows
 abbrev pub HasTable : TableDecl → List ℕ → List Row → Type 0
-HasTable table content rows = (length content ≤ most_table_bytes) × HasRows table.columns most_rows (records_of content) rows
+HasTable table content rows = (length content ≤ TABLE_BYTES) × HasRows table.columns ROWS (records_of content) rows
 
 -- the answer of `facts` once the mapping is read: the event of its table, or the text of all facts
 abbrev pub RowsOutcome : Mapping → List ℕ → Status → List ℕ → Type 0
 RowsOutcome mapping content status text =
     TableEvent mapping.table content status text
-    ⊎ ((rows : List Row) × HasTable mapping.table content rows × (status ≡ st.Done) × IsTextOf (IsFactLine mapping rows) text)
+    ⊎ ((rows : List Row)
+    × HasTable mapping.table content rows × (status ≡ st.Done) × IsTextOf (IsFactLine mapping rows) text)
 
 -- the answer of `facts` on a file: the first event in the order mappings, table, or the text of all facts
 abbrev pub FactsOutcome : Contents → List ℕ → Status → List ℕ → Type 0
 FactsOutcome contents file status text =
     MappingsEvent (contents file) status text
-    ⊎ ((mapping : Mapping) × HasMapping (contents file) mapping × RowsOutcome mapping (contents mapping.table.file) status text)
+    ⊎ ((mapping : Mapping)
+    × HasMapping (contents file) mapping × RowsOutcome mapping (contents mapping.table.file) status text)
 
 -- what a run may answer: the usage text where the words are no task, or the answer of `facts`
 abbrev pub Outcome : List (List ℕ) → Contents → Status → List ℕ → Type 0
@@ -87,9 +90,12 @@ Outcome words contents status text =
     ((task_of words ≡ None) × IsOf lines.usage status text)
     ⊎ ((file : List ℕ) × (task_of words ≡ Some file) × FactsOutcome contents file status text)
 
--- the run judges this file, and no event stands at an earlier place: the mapping document, or the table of one without an event
+-- The run judges this file, and no event stands at an earlier place: the mapping document, or the table of one that
+-- has no event.
 abbrev pub JudgesOf : Contents → List ℕ → List ℕ → Type 0
-JudgesOf contents file name = (name ≡ file) ⊎ ((mapping : Mapping) × HasMapping (contents file) mapping × (name ≡ mapping.table.file))
+JudgesOf contents file name =
+    (name ≡ file) ⊎ ((mapping : Mapping) × HasMapping (contents file) mapping × (name ≡ mapping.table.file))
 
+-- the same by the words
 abbrev pub Judges : List (List ℕ) → Contents → List ℕ → Type 0
 Judges words contents name = (file : List ℕ) × (task_of words ≡ Some file) × JudgesOf contents file name

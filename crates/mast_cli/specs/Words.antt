@@ -12,13 +12,18 @@ use Rattle.mast_cli.specs.declared.words.Usage.{Usage}
 abbrev pub is_dashes : List ℕ → Bool
 is_dashes word = pointwise nat_eq word (codes "--")
 
+-- `-`
+abbrev pub hyphen : ℕ
+hyphen = 45
+
 -- a word that begins with `-` and is longer: before `--` it is an option and no file
 abbrev pub is_option : List ℕ → Bool
 is_option [] = false
 is_option (b ∷ []) = false
-is_option (b ∷ c ∷ more) = b == 45
+is_option (b ∷ c ∷ more) = b == hyphen
 
--- the files among the words after a command that takes no option: the first `--` is dropped, and all words after it are files
+-- The files among the words after a command that takes no option: the first `--` is dropped, and all words after it
+-- are files.
 abbrev pub files_of : List (List ℕ) → Option (List (List ℕ))
 files_of [] = Some []
 files_of (word ∷ words) =
@@ -37,12 +42,6 @@ only_of (Some (file ∷ other ∷ more)) = None
 abbrev pub task_of : List (List ℕ) → Option (List ℕ)
 task_of [] = None
 task_of (command ∷ words) = if pointwise nat_eq command (codes "facts") then only_of (files_of words) else None
-
--- the answer on the words after the command `facts`
-abbrev pub TellsFacts : List (List ℕ) → Result Task (Stop Usage) → Type 0
-TellsFacts words (Ok (task.Facts mappings)) = only_of (files_of words) ≡ Some mappings
-TellsFacts words (Err (stop.Named usage)) = only_of (files_of words) ≡ None
-TellsFacts words (Err stop.NoMemory) = ⊤
 
 -- the answer on words: their task, or that they are none; want of memory says nothing
 abbrev pub TellsWords : List (List ℕ) → Result Task (Stop Usage) → Type 0

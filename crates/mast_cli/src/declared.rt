@@ -1,9 +1,10 @@
-// The table that a mapping document declares.
+//! The table that a mapping document declares.
 ghost use Rattle.std.specs.Prelude.{◌≡◌, ◌≤◌, ◌<◌, ◌+◌, ◌++◌, ◌∷◌, [], length, map, not, true, IfOk, IfSome, None, Some};
 ghost use Rattle.mast_terms.specs.Vocabularies.{stands};
 ghost use Rattle.mast_tree.specs.Outcome.{Answers};
 ghost use Rattle.mast_tree.specs.Source.{AreTokens};
-ghost use Rattle.mast_cli.specs.Columns.{IsIndexed, bytes_of, names_of, number_of};
+ghost use Rattle.mast_cli.specs.Columns.{names_of, number_of};
+ghost use Rattle.mast_cli.specs.inside.Tables.{IsIndexed, bytes_of};
 ghost use Rattle.mast_cli.specs.MappingForm as form;
 
 use crate::items::{identifier, node, plain_text};
@@ -25,7 +26,7 @@ pub struct Declared {
 
 impl Model for Declared {
     ghost use Rattle.mast_tables.specs.declared.declaration.TableDecl.{TableDecl};
-    ghost use Rattle.mast_cli.specs.Columns.{IsIndexed};
+    ghost use Rattle.mast_cli.specs.inside.Tables.{IsIndexed};
 
     ghost Value = { TableDecl };
 

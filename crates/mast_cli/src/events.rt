@@ -1,7 +1,6 @@
-// The events and faults that end a run, each with its status and its printed line.
+//! The events and faults that end a run, each with its status and its printed line.
 ghost use Rattle.std.specs.Prelude.{◌≡◌, ◌++◌, [], ◌∷◌, IfOk, codes, string_bytes};
-ghost use Rattle.mast_cli.specs.Causes.{IsEvent};
-ghost use Rattle.mast_cli.specs.Headline.{fault_line};
+ghost use Rattle.mast_cli.specs.inside.Causes.{IsEvent};
 ghost use Rattle.mast_cli.specs.Endings.{Is};
 ghost use Rattle.mast_cli.specs.Lines as lines;
 
@@ -36,7 +35,7 @@ usage: mastro facts MAPPINGS
 /// A call on the current file failed: `read fault NAME`, with the file's name printed as a text.
 pub fn read_fault(alloc: Global, file: &str) -> Result<Judged, NoMemory>
     ensures status { IfOk result (λ judged. judged.status ≡ Status.ReadFault) }
-    ensures text { IfOk result (λ judged. judged.text.items ≡ fault_line file.now) }
+    ensures text { IfOk result (λ judged. judged.text.items ≡ lines.fault_line file.now) }
 {
     let mut text = b"read fault ".to_vec(alloc)?;
     let name = Term::Value(Value::Text(Text::from_str(alloc, file)?));

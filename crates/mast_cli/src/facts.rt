@@ -1,11 +1,11 @@
-// The facts of a table's rows, and their text.
+//! The facts of a table's rows, and their text.
 ghost use Rattle.std.specs.Prelude.{◌≡◌, ◌≤◌, ◌-◌, ◌++◌, [], length, map, get_or, IfOk, OnOk};
 ghost use Rattle.std.specs.List.{AllByRecursion, concat};
 ghost use Rattle.mast_tables.specs.Rows.{IsPlace};
-ghost use Rattle.mast_cli.specs.Columns.{AreWide};
-ghost use Rattle.mast_cli.specs.Facts.{IsFactLine, all_values, cells_in, fact_line, fact_of, row_lines, rows_lines};
-ghost use Rattle.mast_cli.specs.LinesText.{IsSetOf, IsTextOf, lines_text, pieces};
-ghost use Rattle.mast_cli.specs.Mappings.{FitsTable};
+ghost use Rattle.mast_cli.specs.inside.Tables.{AreWide, FitsTable};
+ghost use Rattle.mast_cli.specs.Facts.{IsFactLine, cells_in, fact_line, fact_of};
+ghost use Rattle.mast_cli.specs.LinesText.{IsTextOf, lines_text};
+ghost use Rattle.mast_cli.specs.inside.FactLines.{IsSetOf, all_values, lines_at, pieces, rows_lines};
 
 use crate::mapping::Mapping;
 use mast_tables::Table;
@@ -59,10 +59,10 @@ fn push_row(
     requires wide { AreWide (length mapping.now.table.columns) table.now }
     requires from { 1 ≤ row }
     requires to { row ≤ length table.now }
-    ensures bytes { OnOk result (bytes.new.items ≡ bytes.old.items ++ concat (row_lines mapping.now (get_or table.now (row - 1) []))) }
-    ensures lengths { OnOk result (lengths.new.items ≡ lengths.old.items ++ map length (row_lines mapping.now (get_or table.now (row - 1) []))) }
+    ensures bytes { OnOk result (bytes.new.items ≡ bytes.old.items ++ concat (lines_at mapping.now table.now row)) }
+    ensures lengths { OnOk result (lengths.new.items ≡ lengths.old.items ++ map length (lines_at mapping.now table.now row)) }
 {
-    match row_args(alloc, table, row, &mapping.slots)? {
+    match row_args(alloc, table, row, mapping.slots.as_slice())? {
         Some(args) => {
             let length = push_fact(alloc, mapping, args, bytes)?;
             lengths.push(length)?;

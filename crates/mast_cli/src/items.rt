@@ -1,4 +1,4 @@
-// The items that forms are made of.
+//! The items that forms are made of.
 ghost use Rattle.std.specs.Prelude.{◌≡◌, None, Some, slice_get};
 ghost use Rattle.mast_tree.specs.Outcome.{Answers};
 ghost use Rattle.mast_tree.specs.Source.{AreTokens};

@@ -1,4 +1,4 @@
-// What came of a stage of a run.
+//! What came of a stage of a run.
 use crate::status::Status;
 
 /// A status, and the text that is to be written with it.

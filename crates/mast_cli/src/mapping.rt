@@ -1,17 +1,18 @@
-// The one form of a mapping document that is read so far: one table, and one class over its rows.
+//! The one form of a mapping document that is read so far: one table, and one class over its rows.
 ghost use Rattle.std.specs.Prelude.{◌≡◌, ◌≤◌, length, IfOk, None, Some, []};
 ghost use Rattle.mast_tree.specs.Outcome.{Answers};
 ghost use Rattle.mast_tree.specs.Source.{AreTokens};
-ghost use Rattle.mast_cli.specs.Columns.{AreColumns, names_of};
+ghost use Rattle.mast_cli.specs.Columns.{names_of};
 ghost use Rattle.mast_cli.specs.MappingForm as form;
-ghost use Rattle.mast_cli.specs.Mappings.{FitsTable, IsForm};
+ghost use Rattle.mast_cli.specs.Mappings.{IsForm};
+ghost use Rattle.mast_cli.specs.inside.Tables.{AreColumns, FitsTable};
 
 use crate::declared::{Declared, read_table};
 use crate::items::{identifier, node, plain_text};
 use crate::query::{holds, read_query};
 use indexmap::IndexSet;
 use mast_tables::TableDecl;
-use mast_terms::{NoMemory, Stop, Text};
+use mast_terms::{List, NoMemory, Stop, Text};
 use mast_tree::{Doc, Item, PrefixTable, prefixes};
 use std::alloc::Global;
 
@@ -26,7 +27,7 @@ pub struct Mapping {
     pub table: TableDecl,
     pub class: Text,
     pub symbol: Text,
-    pub slots: Vec<u32>,
+    pub slots: List<u32>,
 }
 
 /// The mapping of a document of this form, in order:
@@ -215,7 +216,7 @@ fn read_object(
                 table: table.into_table(),
                 class,
                 symbol: Text::from_str(alloc, symbol)?,
-                slots,
+                slots: List::from_vec(slots),
             })
         }
         [] => Err(Stop::Named(Unbuilt)),

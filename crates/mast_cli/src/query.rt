@@ -1,4 +1,4 @@
-// The source query that is read so far: columns of one table.
+//! The source query that is read so far: columns of one table.
 ghost use Rattle.std.specs.Prelude.{◌≡◌, ◌++◌, ◌∷◌, [], false, IfOk, OnOk, None, Some};
 ghost use Rattle.std.specs.Str.{str_eq_ignore_ascii_case};
 ghost use Rattle.mast_tree.specs.Outcome.{Answers};

@@ -1,18 +1,17 @@
-// The stages of a run, in order, up to the text that is to be written.
-ghost use Rattle.std.specs.Prelude.{◌≡◌, ◌<◌, ◌≤◌, length, map, string_bytes, IfOk, IfSome};
-ghost use Rattle.mast_cli.specs.Columns.{AreWide};
-ghost use Rattle.mast_cli.specs.Mappings.{FitsTable};
-ghost use Rattle.mast_cli.specs.Outcome.{Declares, DocumentEvent, HasMapping, MappingsEvent, RecordsEvent, HasTable, TableEvent, most_rows};
-ghost use Rattle.mast_cli.specs.Telling.{TellsBytes, TellsFile, TellsFacts, TellsRun};
-ghost use Rattle.mast_tables.specs.Breach.{HasRows};
-ghost use Rattle.mast_tables.specs.Records.{records_of};
-ghost use Rattle.mast_cli.specs.Causes.{IfRead, JudgedHasCause, StageHasCause, StageIsEvent};
+//! The stages of a run, in order, up to the text that is to be written.
+ghost use Rattle.std.specs.Prelude.{◌≡◌, ◌<◌, ◌≤◌, length, IfOk};
+ghost use Rattle.mast_cli.specs.Outcome.{Declares, DocumentEvent};
+ghost use Rattle.mast_cli.specs.Run.{bytes_of};
+ghost use Rattle.mast_cli.specs.inside.Causes.{IfRead, JudgedHasCause, StageHasCause, StageIsEvent};
+ghost use Rattle.mast_cli.specs.inside.Tables.{AreWide, FitsTable};
+ghost use Rattle.mast_cli.specs.inside.Telling.{TellsBytes, TellsFacts, TellsMappings, TellsRecords, TellsRun, TellsTable, WhenTold};
 
 use crate::events::{
     doc_too_long, lex_breach, read_fault, row_breach, table_too_long, tree_breach, unbuilt, usage,
 };
 use crate::facts::facts_text;
 use crate::judged::{Judged, Stage};
+use crate::limits::{MAPPING_BYTES, ROWS, TABLE_BYTES};
 use crate::mapping::{Mapping, read_mapping};
 use crate::status::Status;
 use crate::words::{Task, Usage, read_words};
@@ -22,19 +21,11 @@ use mast_terms::{NoMemory, Stop};
 use mast_tree::{DocName, read_doc, tokens};
 use std::alloc::Global;
 
-// The greatest numbers of bytes of a mapping document and of all table files together.
-const MAPPING_BYTES: u64 = 16_777_216;
-
-const TABLE_BYTES: u64 = 134_217_728;
-
-// The greatest number of rows of all tables together.
-const ROWS: u32 = 2_000_000;
-
 /// The status and the text of a run, but for faults of the sink.
 pub fn judge<F: Files>(alloc: Global, words: &[String], files: &mut F) -> Result<Judged, NoMemory>
-    ensures told { IfOk result (λ judged. IfSome (F.contents files.old) (λ contents. TellsRun (map string_bytes words.now) contents (F.reading files.new) judged)) }
+    ensures told { IfOk result (WhenTold (F.contents files.old) (TellsRun (bytes_of words.now) (F.reading files.new))) }
     ensures kept { F.contents files.new ≡ F.contents files.old }
-    ensures cause { IfOk result (λ judged. JudgedHasCause (F.faults files.old) (F.faults files.new) (F.reading files.new) judged) }
+    ensures cause { IfOk result (JudgedHasCause (F.faults files.old) (F.faults files.new) (F.reading files.new)) }
 {
     match read_words(alloc, words) {
         Ok(Task::Facts { mappings }) => judge_facts(alloc, mappings.as_str(), files),
@@ -45,9 +36,9 @@ pub fn judge<F: Files>(alloc: Global, words: &[String], files: &mut F) -> Result
 
 // `facts`: the mappings, the table, the text.
 fn judge_facts<F: Files>(alloc: Global, name: &str, files: &mut F) -> Result<Judged, NoMemory>
-    ensures told { IfOk result (λ judged. IfSome (F.contents files.old) (λ contents. TellsFacts contents name.now (F.reading files.new) judged)) }
+    ensures told { IfOk result (WhenTold (F.contents files.old) (TellsFacts name.now (F.reading files.new))) }
     ensures kept { F.contents files.new ≡ F.contents files.old }
-    ensures cause { IfOk result (λ judged. JudgedHasCause (F.faults files.old) (F.faults files.new) (F.reading files.new) judged) }
+    ensures cause { IfOk result (JudgedHasCause (F.faults files.old) (F.faults files.new) (F.reading files.new)) }
 {
     let mapping = match judge_mappings(alloc, name, files)? {
         Stage::Read(mapping) => mapping,
@@ -69,10 +60,10 @@ fn judge_mappings<F: Files>(
     name: &str,
     files: &mut F,
 ) -> Result<Stage<Mapping>, NoMemory>
-    ensures told { IfOk result (λ stage. IfSome (F.contents files.old) (λ contents. TellsFile (HasMapping (contents name.now)) (MappingsEvent (contents name.now)) name.now (F.reading files.new) stage)) }
+    ensures told { IfOk result (WhenTold (F.contents files.old) (TellsMappings name.now (F.reading files.new))) }
     ensures fits { IfOk result (IfRead FitsTable) }
     ensures kept { F.contents files.new ≡ F.contents files.old }
-    ensures cause { IfOk result (λ stage. StageHasCause (F.faults files.old) (F.faults files.new) (F.reading files.new) stage) }
+    ensures cause { IfOk result (StageHasCause (F.faults files.old) (F.faults files.new) (F.reading files.new)) }
 {
     match read_all(alloc, files, name, MAPPING_BYTES) {
         Ok(bytes) => judge_document(alloc, &bytes),
@@ -119,10 +110,10 @@ fn judge_table<F: Files>(
     files: &mut F,
 ) -> Result<Stage<Table>, NoMemory>
     requires { length decl.now.columns < 4294967295 }
-    ensures told { IfOk result (λ stage. IfSome (F.contents files.old) (λ contents. TellsFile (HasTable decl.now (contents decl.now.file)) (TableEvent decl.now (contents decl.now.file)) decl.now.file (F.reading files.new) stage)) }
+    ensures told { IfOk result (WhenTold (F.contents files.old) (TellsTable decl.now (F.reading files.new))) }
     ensures wide { IfOk result (IfRead (AreWide (length decl.now.columns))) }
     ensures kept { F.contents files.new ≡ F.contents files.old }
-    ensures cause { IfOk result (λ stage. StageHasCause (F.faults files.old) (F.faults files.new) (F.reading files.new) stage) }
+    ensures cause { IfOk result (StageHasCause (F.faults files.old) (F.faults files.new) (F.reading files.new)) }
 {
     match read_all(alloc, files, decl.file.as_str(), TABLE_BYTES) {
         Ok(bytes) => judge_records(alloc, decl, &bytes),
@@ -140,7 +131,7 @@ fn judge_table<F: Files>(
 fn judge_records(alloc: Global, decl: &TableDecl, bytes: &[u8]) -> Result<Stage<Table>, NoMemory>
     requires bytes { length bytes.now < 4294967295 }
     requires columns { length decl.now.columns < 4294967295 }
-    ensures told { IfOk result (TellsBytes (HasRows decl.now.columns most_rows (records_of bytes.now)) (RecordsEvent decl.now bytes.now)) }
+    ensures told { IfOk result (TellsRecords decl.now bytes.now) }
     ensures event { IfOk result StageIsEvent }
     ensures wide { IfOk result (IfRead (AreWide (length decl.now.columns))) }
 {

@@ -1,4 +1,4 @@
-// How a run ends.
+//! How a run ends.
 ghost use Rattle.std.specs.Prelude.{◌≡◌};
 ghost use Rattle.mast_cli.specs.Codes.{code_of};
 
@@ -22,7 +22,7 @@ pub enum Status {
 }
 
 impl Status {
-    /// The code with which the program ends, from 0 to 8.
+    /// The code with which the program ends: 0, 1, 2, 4, 5, 6 or 7.
     pub fn code(self) -> u8
         ensures { result ≡ code_of self }
     {

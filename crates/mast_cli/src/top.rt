@@ -1,9 +1,8 @@
-// The top call.
-ghost use Rattle.std.specs.Prelude.{◌≡◌, ◌⊎◌, ◌<◌, map, string_bytes, IfSome};
+//! The top call.
+ghost use Rattle.std.specs.Prelude.{◌≡◌, ◌⊎◌, ◌<◌, Some};
 ghost use Rattle.mast_files.specs.Causes.{Rose};
-ghost use Rattle.mast_cli.specs.Headline.{IsAnswer, IsNoAnswer, FailedFile, GivesFaultLine};
-ghost use Rattle.mast_cli.specs.Outcome.{Judges};
-ghost use Rattle.mast_cli.specs.Told.{WritesOutcome, WritesPart};
+ghost use Rattle.mast_files.specs.Stored.{content_of};
+ghost use Rattle.mast_cli.specs.Run.{IsAnswer, IsNoAnswer, GivesFront, WritesText, WritesFaultLine, FaultsInPlace, WritesPart};
 
 use crate::stages::judge;
 use crate::status::Status;
@@ -23,25 +22,27 @@ pub fn run<Rt: Threads + Sync, F: Files, S: Sink>(
     files: &mut F,
     sink: &mut S,
 ) -> Status
-    // An answer is that of the definitions, and the sink was given exactly its text. No fault came.
-    ensures outcome { IsAnswer result → IfSome (F.contents files.old)
-        (λ contents. WritesOutcome (map string_bytes words.now) contents result (S.written sink.old) (S.written sink.new)) }
-    ensures quiet { IsAnswer result → (F.faults files.new ≡ F.faults files.old) × (S.faults sink.new ≡ S.faults sink.old) }
+    // An answer is that of the definitions, and the sink was given exactly its text.
+    ensures outcome { WritesText words.now (F.contents files.old) result (S.written sink.old) (S.written sink.new) }
+
+    // No fault came then.
+    ensures no_read_fault { IsAnswer result → F.faults files.new ≡ F.faults files.old }
+    ensures no_write_fault { IsAnswer result → S.faults sink.new ≡ S.faults sink.old }
 
     // A read fault comes only where the count of the files' faults rose; the sink was given exactly its line.
     ensures read_fault { result ≡ Status.ReadFault → Rose (F.faults files.old) (F.faults files.new) }
-    ensures read_fault_line { result ≡ Status.ReadFault → GivesFaultLine (F.reading files.new) (S.written sink.old) (S.written sink.new) }
+    ensures read_fault_line { WritesFaultLine (F.reading files.new) result (S.written sink.old) (S.written sink.new) }
 
     // Its file is one that the run judges, and no event stands at an earlier place.
-    ensures read_fault_place { result ≡ Status.ReadFault → IfSome (F.contents files.old)
-        (λ contents. FailedFile (F.reading files.new) (Judges (map string_bytes words.now) contents)) }
+    ensures read_fault_place { FaultsInPlace words.now (F.contents files.old) (F.reading files.new) result }
 
     // A write fault comes only where the count of the sink's faults rose.
     ensures write_fault { result ≡ Status.WriteFault → Rose (S.faults sink.old) (S.faults sink.new) }
 
     // What went out is a front of the text that was to be written.
-    ensures write_fault_text { result ≡ Status.WriteFault → IfSome (F.contents files.old)
-        (λ contents. WritesPart (map string_bytes words.now) contents (F.reading files.new) (F.faults files.old) (F.faults files.new) (S.written sink.old) (S.written sink.new)) }
+    ensures write_fault_text { let rose = Rose (F.faults files.old) (F.faults files.new) in
+        let front = GivesFront (S.written sink.old) (S.written sink.new) in
+        WritesPart words.now (F.contents files.old) (F.reading files.new) rose front result }
 
     // Without memory nothing is written.
     ensures no_memory { result ≡ Status.NoMemory → S.written sink.new ≡ S.written sink.old }
@@ -68,9 +69,8 @@ pub fn run_sound<Rt: Threads + Sync>(
     sink: &mut SoundSink,
 ) -> Status
     ensures complete { (result ≡ Status.NoMemory) ⊎ IsAnswer result }
-    ensures outcome { IsAnswer result → IfSome (⟦<SoundFiles as Files>⟧.contents files.old)
-        (λ contents. WritesOutcome (map string_bytes words.now) contents result (⟦<SoundSink as Sink>⟧.written sink.old) (⟦<SoundSink as Sink>⟧.written sink.new)) }
-    ensures no_memory { result ≡ Status.NoMemory → ⟦<SoundSink as Sink>⟧.written sink.new ≡ ⟦<SoundSink as Sink>⟧.written sink.old }
+    ensures outcome { WritesText words.now (Some (content_of files.old.files)) result sink.old.written sink.new.written }
+    ensures no_memory { result ≡ Status.NoMemory → sink.new.written ≡ sink.old.written }
 {
     run(rt, alloc, words, files, sink)
 }

@@ -1,7 +1,8 @@
-// The words after the program's name.
+//! The words after the program's name.
 ghost use Rattle.std.specs.Prelude.{◌≡◌, None, Some, map, string_bytes, if◌then◌else◌};
 ghost use Rattle.std.specs.Option.{option_map, option_copied};
-ghost use Rattle.mast_cli.specs.Words.{TellsFacts, TellsWords, files_of, is_option, only_of};
+ghost use Rattle.mast_cli.specs.Words.{TellsWords, files_of, is_option, only_of};
+ghost use Rattle.mast_cli.specs.inside.Commands.{TellsFacts};
 
 use mast_terms::{NoMemory, Stop, Text};
 use std::alloc::Global;

@@ -1,7 +1,8 @@
 -- The columns so far, no more than items were read, and their names.
 use Rattle.std.proofs.Common.{◌≡◌, ◌≤◌, [], length, drop, map}
 use Rattle.mast_tree.specs.Source.{AreTokens}
-use Rattle.mast_cli.specs.Columns.{bytes_of, names_of}
+use Rattle.mast_cli.specs.Columns.{names_of}
+use Rattle.mast_cli.specs.inside.Tables.{bytes_of}
 use Rattle.mast_cli.specs.MappingForm.{columns_after}
 use Rattle.mast_cli.proofs.declared.read_columns.Given as goal
 

@@ -2,7 +2,8 @@
 use Rattle.std.proofs.Common.{◌++◌, ◌∙◌, List, ℕ, Bor, map, ap}
 use Rattle.std.specs.List.{concat}
 use Rattle.std.proofs.lemmas.Result.{IfOk-weaker}
-use Rattle.mast_cli.specs.Facts.{IsFactLine, rows_lines}
+use Rattle.mast_cli.specs.Facts.{IsFactLine}
+use Rattle.mast_cli.specs.inside.FactLines.{rows_lines}
 use Rattle.mast_cli.specs.LinesText.{IsTextOf, lines_text}
 use Rattle.mast_cli.proofs.FactsLemmas.{facts_are}
 use Rattle.mast_cli.proofs.facts.facts_text.Goals as goal

@@ -1,7 +1,7 @@
 -- A row's lines come after those of the rows before it.
 use Rattle.std.proofs.Common.{◌<◌, ◌+◌, ◌-◌, ◌≡◌, ◌++◌, length, map, arith}
 use Rattle.std.specs.List.{concat}
-use Rattle.mast_cli.specs.Facts.{rows_lines}
+use Rattle.mast_cli.specs.inside.FactLines.{rows_lines}
 use Rattle.mast_cli.proofs.FactsLemmas.{bytes_more, lengths_more}
 use Rattle.mast_cli.proofs.facts.push_facts.Goals as goal
 

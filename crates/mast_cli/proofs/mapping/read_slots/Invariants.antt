@@ -1,7 +1,8 @@
 -- The slots so far, which are columns of the table.
 use Rattle.std.proofs.Common.{◌≡◌, [], length, drop}
 use Rattle.mast_tree.specs.Source.{AreTokens}
-use Rattle.mast_cli.specs.Columns.{AreColumns, names_of}
+use Rattle.mast_cli.specs.Columns.{names_of}
+use Rattle.mast_cli.specs.inside.Tables.{AreColumns}
 use Rattle.mast_cli.specs.MappingForm.{slots_after}
 use Rattle.mast_cli.proofs.mapping.read_slots.Given as goal
 

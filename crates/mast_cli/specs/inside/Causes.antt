@@ -7,12 +7,14 @@ use Rattle.mast_cli.specs.declared.judged.Stage.{Stage}
 use Rattle.mast_cli.specs.declared.judged.Stage.TheVariants as stage
 use Rattle.mast_files.specs.Outside.{Reading}
 use Rattle.mast_files.specs.Causes.{Rose}
-use Rattle.mast_cli.specs.Headline.{IsAnswer, FailedFile, fault_line}
+use Rattle.mast_cli.specs.Lines.{fault_line}
+use Rattle.mast_cli.specs.Run.{IsAnswer, FailedFile}
 
 -- A read fault is judged only where the count rose, with the line of the current file, of which a call has failed.
 -- Nothing else that is judged raises the count.
 abbrev pub HasCause : ℕ → ℕ → Reading → Status → List ℕ → Type 0
-HasCause before now reading st.ReadFault text = (before ≤ now) × Rose before now × FailedFile reading (λ name. text ≡ fault_line name)
+HasCause before now reading st.ReadFault text =
+    (before ≤ now) × Rose before now × FailedFile reading (λ name. text ≡ fault_line name)
 HasCause before now reading st.WriteFault text = ⊥
 HasCause before now reading st.NoMemory text = ⊥
 HasCause before now reading status text = now ≡ before

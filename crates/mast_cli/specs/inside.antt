@@ -1,0 +1,6 @@
+-- What private functions alone cite.
+pub mod Causes
+pub mod Commands
+pub mod FactLines
+pub mod Tables
+pub mod Telling

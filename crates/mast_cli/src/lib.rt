@@ -1,0 +1,26 @@
+//! The top call of Mastro: facts of mappings and tables, by the words of the command line.
+//! The program rests on this: `program` answers what its words and its files' contents call for, and writes just that.
+//! In `specs/`, `Run` has what a run owes, `Outcome` what it may answer; the files that these name define the rest.
+//! It alone knows words, printed lines and statuses. It must not know which machine its files and its sink stand on.
+#![tactic(auto)]
+
+mod declared;
+mod events;
+mod facts;
+mod given;
+mod items;
+mod judged;
+mod laws;
+mod limits;
+mod mapping;
+mod query;
+mod stages;
+mod status;
+mod top;
+mod words;
+
+pub use given::program;
+pub use laws::outcomes_are_one;
+pub use status::Status;
+pub use top::{run, run_sound};
+pub use words::{Task, Usage, read_words};
