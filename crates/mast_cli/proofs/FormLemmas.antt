@@ -3,10 +3,10 @@ use Rattle.std.proofs.Common.{◌≡◌, ℕ, List, ◌∷◌, [], refl, ap, sym
 use Rattle.std.specs.Prelude.{Option, Some, None, Result, Ok, Err, IfOk, codes, option_and_then}
 use Rattle.mast_terms.specs.declared.memory.Stop.{Stop}
 use Rattle.mast_terms.specs.declared.memory.Stop.TheVariants.{Named, NoMemory}
-use Rattle.mast_tree.specs.Outcome.{Answers}
-use Rattle.mast_tree.specs.PrefixNodes.{IsFront}
-use Rattle.mast_tree.specs.Prefixes.{front}
-use Rattle.mast_tree.proofs.PrefixNodeLemmas.{FrontTells, front_tells, front_is}
+use Rattle.mast_terms.specs.Answers.{Answers}
+use Rattle.mast_tree.specs.Prologue.{IsPrologue}
+use Rattle.mast_tree.specs.inside.Prologue.{prologue_of}
+use Rattle.mast_tree.proofs.PrologueLemmas.{PrologueTells, prologue_tells, prologue_is}
 use Rattle.mast_tree.specs.Source.{AreTokens}
 use Rattle.mast_tree.specs.declared.item.Item.{Item}
 use Rattle.mast_tree.specs.declared.token.Token.{Token}
@@ -14,17 +14,18 @@ use Rattle.mast_tree.specs.declared.shape.ShapeBreach.{ShapeBreach}
 use Rattle.mast_tables.specs.declared.declaration.TableDecl.{TableDecl}
 use Rattle.mast_cli.specs.declared.mapping.Mapping.{Mapping}
 use Rattle.mast_cli.specs.declared.mapping.Unbuilt.{Unbuilt}
-use Rattle.mast_cli.specs.MappingForm.{Said, said, node_of, identifier_of, string_of, table_in, query_of, slots_after, object_of, object_in, class_of, head_of, head_in, map_of, map_in, pair_of, pair_in, main_of, after_front, form_of}
+use Rattle.mast_cli.specs.MappingForm.{Said, said, node_of, identifier_of, string_of, table_in, query_of, slots_after, object_of, object_in, class_of, head_of, head_in, map_of, map_in, pair_of, pair_in, main_of}
+use Rattle.mast_cli.specs.inside.Form.{after_prologue, form_of}
 use Rattle.mast_cli.specs.Columns.{names_of}
 use Rattle.mast_cli.specs.Mappings.{IsForm}
 use Rattle.mast_cli.proofs.QueryLemmas.{parts, query_read, query_is_read}
 
 -- lists of two items, and of one or more
 
-one_front : (source : List ℕ) (tokens : List Token) (r : Result (List (List ℕ × List ℕ)) ShapeBreach) (items : List Item) (y : Said) → after_front source tokens r items ≡ Some y
+one_prologue : (source : List ℕ) (tokens : List Token) (r : Result (List (List ℕ × List ℕ)) ShapeBreach) (items : List Item) (y : Said) → after_prologue source tokens r items ≡ Some y
     → (namespaces : List (List ℕ × List ℕ)) × (r ≡ Ok namespaces) × (option_and_then (λ main. pair_in source tokens namespaces main) (main_of source tokens items) ≡ Some y)
-one_front source tokens (Ok namespaces) items y h = (namespaces, refl, h)
-one_front source tokens (Err breach) items y h = absurd (cc)
+one_prologue source tokens (Ok namespaces) items y h = (namespaces, refl, h)
+one_prologue source tokens (Err breach) items y h = absurd (cc)
 
 two_pair : (source : List ℕ) (tokens : List Token) (namespaces : List (List ℕ × List ℕ)) (items : List Item) (y : Said) → pair_in source tokens namespaces items ≡ Some y
     → (table : Item) × (map : Item) × (items ≡ table ∷ map ∷ []) × (pair_of source tokens namespaces table map ≡ Some y)
@@ -64,7 +65,7 @@ some_same o x y e f = e ∙ ap (λ z. Some z) f
 -- what is read on the way: the main node, the table, the query, the class
 record Main (source : List ℕ) (tokens : List Token) (items : List Item) : Type 0 where
   namespaces : List (List ℕ × List ℕ)
-  prefixes : IsFront source tokens (codes "Mappings") items namespaces
+  prefixes : IsPrologue source tokens (codes "Mappings") items namespaces
   table : Item
   map : Item
   main : main_of source tokens items ≡ Some (table ∷ map ∷ [])
@@ -161,10 +162,10 @@ pair_read source tokens items y h x =
 -- what is read is of the form
 pub form_read : (source : List ℕ) (tokens : List Token) (items : List Item) (y : Said) → form_of source tokens items ≡ Some y → IsForm source tokens items y
 form_read source tokens items y h =
-    let a = one_front source tokens (front source tokens (codes "Mappings") [] items) items y h in
+    let a = one_prologue source tokens (prologue_of source tokens (codes "Mappings") [] items) items y h in
     let b = parts (λ main. pair_in source tokens a.0 main) (main_of source tokens items) y a.2 in
     let c = two_pair source tokens a.0 b.0 y b.2 in
-    pair_read source tokens items y (record { namespaces = a.0; prefixes = subst (λ r. FrontTells source tokens (codes "Mappings") items r) a.1 (front_tells source tokens (codes "Mappings") items); table = c.0; map = c.1; main = some_same (main_of source tokens items) b.0 (c.0 ∷ c.1 ∷ []) b.1 c.2 }) c.3
+    pair_read source tokens items y (record { namespaces = a.0; prefixes = subst (λ r. PrologueTells source tokens (codes "Mappings") items r) a.1 (prologue_tells source tokens (codes "Mappings") items); table = c.0; map = c.1; main = some_same (main_of source tokens items) b.0 (c.0 ∷ c.1 ∷ []) b.1 c.2 }) c.3
 
 chain : {A B : Type 0} (f : A → Option B) (o : Option A) (x : A) (y : B) → o ≡ Some x → f x ≡ Some y → option_and_then f o ≡ Some y
 chain f o x y e h = ap (λ z. option_and_then f z) e ∙ h
@@ -186,7 +187,7 @@ form_is_read source tokens items y h =
     chain (λ columns. option_and_then (λ decl. option_and_then (λ inside. map_in source tokens h.namespaces decl inside) (node_of source tokens (codes "Map") h.map)) (table_in source tokens columns)) (node_of source tokens (codes "Table") h.table) h.declaration y h.table_node
     (chain (λ decl. option_and_then (λ inside. map_in source tokens h.namespaces decl inside) (node_of source tokens (codes "Map") h.map)) (table_in source tokens h.declaration) y.table y h.declared
     (chain (λ inside. map_in source tokens h.namespaces y.table inside) (node_of source tokens (codes "Map") h.map) (h.query ∷ h.head ∷ []) y h.map_node map)) in
-    ap (λ r. after_front source tokens r items) (front_is source tokens (codes "Mappings") items (Ok h.namespaces) h.prefixes) ∙ chain (λ main. pair_in source tokens h.namespaces main) (main_of source tokens items) (h.table ∷ h.map ∷ []) y h.main pair
+    ap (λ r. after_prologue source tokens r items) (prologue_is source tokens (codes "Mappings") items (Ok h.namespaces) h.prefixes) ∙ chain (λ main. pair_in source tokens h.namespaces main) (main_of source tokens items) (h.table ∷ h.map ∷ []) y h.main pair
 
 -- the reader's answer as the form's
 pub form_answers : (source : List ℕ) (tokens : List Token) (items : List Item) (r : Result Mapping (Stop Unbuilt))
@@ -203,6 +204,7 @@ form_answers source tokens items (Err NoMemory) h = tt
 pub one_said : (source : List ℕ) (tokens : List Token) (items : List Item) (a b : Said) → IsForm source tokens items a → IsForm source tokens items b → a ≡ b
 one_said source tokens items a b f g = inner a b (sym (form_is_read source tokens items a f) ∙ form_is_read source tokens items b g)
 
+-- what is read is the one thing that the document says
 pub form_only : (source : List ℕ) (tokens : List Token) (items : List Item) (r : Result Mapping (Stop Unbuilt))
     → Answers r (λ mapping. AreTokens source tokens → form_of source tokens items ≡ Some (said mapping)) (λ _. AreTokens source tokens → form_of source tokens items ≡ None)
     → IfOk r (λ mapping. AreTokens source tokens → (other : Said) → IsForm source tokens items other → other ≡ said mapping)

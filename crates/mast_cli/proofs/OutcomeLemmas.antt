@@ -1,7 +1,7 @@
 -- Words and contents have one outcome at most.
 use Rattle.std.proofs.Common.{◌≡◌, ◌-◌, inl, inr, ℕ, List, [], Option, Some, None, subst, sym, ap, ◌∙◌, refl, arith}
 use Rattle.std.specs.Prelude.{get_or}
-use Rattle.mast_tree.specs.declared.item.DocName.TheVariants as doc
+use Rattle.mast_tree.specs.declared.document.DocName.TheVariants as doc
 use Rattle.mast_tree.specs.declared.item.Item.{Item}
 use Rattle.mast_tree.specs.declared.token.Token.{Token}
 use Rattle.mast_tree.specs.Source.{AreTokens}

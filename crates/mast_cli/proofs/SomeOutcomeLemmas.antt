@@ -11,7 +11,7 @@ use Rattle.mast_tree.proofs.LawLemmas.{has_one_tree}
 use Rattle.mast_tree.proofs.TokenLawLemmas.{has_one_reading}
 use Rattle.mast_tree.specs.Source.{AreTokens, IsLexBreach}
 use Rattle.mast_tree.specs.Trees.{IsTree, IsTreeBreach}
-use Rattle.mast_tree.specs.declared.item.DocName.TheVariants as doc
+use Rattle.mast_tree.specs.declared.document.DocName.TheVariants as doc
 use Rattle.mast_tree.specs.declared.item.Item.{Item}
 use Rattle.mast_tree.specs.declared.item.TreeBreach.{TreeBreach}
 use Rattle.mast_tree.specs.declared.token.LexBreach.{LexBreach}
@@ -22,7 +22,8 @@ use Rattle.mast_cli.specs.declared.status.Status.{Status}
 use Rattle.mast_cli.specs.declared.status.Status.TheVariants as st
 use Rattle.mast_cli.specs.Laws.{SomeOutcome}
 use Rattle.mast_cli.specs.Lines as lines
-use Rattle.mast_cli.specs.MappingForm.{Said, said, form_of}
+use Rattle.mast_cli.specs.MappingForm.{Said, said}
+use Rattle.mast_cli.specs.inside.Form.{form_of}
 use Rattle.mast_cli.specs.Mappings.{IsForm}
 use Rattle.mast_cli.specs.Outcome.{Declares, DocumentEvent, MappingsEvent, HasMapping, RowsOutcome, FactsOutcome, Outcome}
 use Rattle.mast_cli.specs.Words.{task_of}

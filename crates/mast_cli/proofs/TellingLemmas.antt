@@ -5,7 +5,7 @@ use Rattle.mast_terms.specs.declared.memory.Stop.{Stop}
 use Rattle.mast_terms.specs.declared.memory.Stop.TheVariants as stop
 use Rattle.mast_tree.specs.declared.item.Item.{Item}
 use Rattle.mast_tree.specs.declared.token.Token.{Token}
-use Rattle.mast_tree.specs.Outcome.{Answers}
+use Rattle.mast_terms.specs.Answers.{Answers}
 use Rattle.mast_tree.specs.Source.{AreTokens}
 use Rattle.mast_tree.specs.Trees.{IsTree}
 use Rattle.mast_cli.specs.Endings.{IsOf}

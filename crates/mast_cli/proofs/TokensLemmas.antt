@@ -4,7 +4,8 @@ use Rattle.std.proofs.Common.{length-append, length-drop}
 use Rattle.mast_tree.specs.declared.token.Token.{Token}
 use Rattle.mast_tree.specs.declared.token.TokenKind.{TokenKind}
 use Rattle.mast_tree.specs.Tokens.{is_token, feeds}
-use Rattle.mast_tree.specs.Source.{Lexes, AreTokens, mark_of}
+use Rattle.mast_source.specs.Bom.{bom_length}
+use Rattle.mast_tree.specs.Source.{Lexes, AreTokens}
 
 -- a token has a byte
 some_byte : (kind : TokenKind) (word : List ℕ) → is_token kind word ≡ true → 1 ≤ length word
@@ -28,6 +29,6 @@ lexes_few at line bytes (t ∷ ts) h =
 -- a source has no more tokens than bytes
 pub tokens_few : (source : List ℕ) (tokens : List Token) → AreTokens source tokens → length tokens ≤ length source
 tokens_few source tokens h =
-    let few = lexes_few (mark_of source) 1 (drop (mark_of source) source) tokens h.1 in
-    let cut = length-drop (mark_of source) source in
+    let few = lexes_few (bom_length source) 1 (drop (bom_length source) source) tokens h.1 in
+    let cut = length-drop (bom_length source) source in
     omega (few, cut, arith)

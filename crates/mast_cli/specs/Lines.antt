@@ -7,8 +7,8 @@ use Rattle.mast_terms.specs.Printed.{quoted}
 use Rattle.mast_tables.specs.declared.declaration.RowBreach.{RowBreach}
 use Rattle.mast_tables.specs.declared.declaration.RowKind.{RowKind}
 use Rattle.mast_tables.specs.declared.declaration.RowKind.TheVariants as row
-use Rattle.mast_tree.specs.declared.item.DocName.{DocName}
-use Rattle.mast_tree.specs.declared.item.DocName.TheVariants as doc
+use Rattle.mast_tree.specs.declared.document.DocName.{DocName}
+use Rattle.mast_tree.specs.declared.document.DocName.TheVariants as doc
 use Rattle.mast_tree.specs.declared.item.TreeBreach.{TreeBreach}
 use Rattle.mast_tree.specs.declared.item.TreeKind.{TreeKind}
 use Rattle.mast_tree.specs.declared.item.TreeKind.TheVariants as tree

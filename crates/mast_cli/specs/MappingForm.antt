@@ -13,8 +13,10 @@ use Rattle.mast_tree.specs.declared.token.Token.{Token}
 use Rattle.mast_tree.specs.declared.token.TokenKind.{TokenKind}
 use Rattle.mast_tree.specs.declared.token.TokenKind.TheVariants.{Str}
 use Rattle.mast_tree.specs.declared.shape.ShapeBreach.{ShapeBreach}
-use Rattle.mast_tree.specs.Prefixes.{word_of, front, iri_of}
-use Rattle.mast_tree.specs.Words.{span, inside, unescaped}
+use Rattle.mast_tree.specs.Prefixes.{iri_of}
+use Rattle.mast_source.specs.Escapes.{unescaped}
+use Rattle.mast_source.specs.Slices.{inside}
+use Rattle.mast_tree.specs.Words.{span, word_of}
 use Rattle.mast_tables.specs.declared.declaration.Column.{Column}
 use Rattle.mast_tables.specs.declared.declaration.TableDecl.{TableDecl}
 use Rattle.mast_cli.specs.declared.mapping.Mapping.{Mapping}
@@ -24,6 +26,7 @@ use Rattle.mast_cli.specs.Columns.{names_of, number_of}
 abbrev pub is_word_byte : ℕ → Bool
 is_word_byte b = b == 95 || is_ascii_alphanumeric b
 
+-- each byte is one of these
 abbrev pub are_word : List ℕ → Bool
 are_word [] = true
 are_word (b ∷ bs) = is_word_byte b && are_word bs
@@ -46,6 +49,7 @@ texts words = map (λ word. word.now) words
 abbrev pub keywords : List (List ℕ)
 keywords = codes "SELECT" ∷ codes "DISTINCT" ∷ codes "FROM" ∷ codes "WHERE" ∷ codes "AS" ∷ codes "AND" ∷ codes "OR" ∷ codes "NOT" ∷ codes "EXISTS" ∷ codes "UNION" ∷ codes "EXCEPT" ∷ codes "INTERSECT" ∷ codes "PREFIX" ∷ codes "SPARQLTABLE" ∷ codes "DATE" ∷ []
 
+-- a keyword, in any case
 abbrev pub is_keyword : List ℕ → Bool
 is_keyword name = is_among keywords name
 
@@ -73,6 +77,7 @@ node_in source tokens word (Item-F.Str t tag) = None
 node_in source tokens word (Item-F.Bind t iri) = None
 node_in source tokens word (Item-F.Node t items) = if bytes_eq (word_of source tokens t) word then Some items else None
 
+-- the same of an item
 abbrev pub node_of : List ℕ → List Token → List ℕ → Item → Option (List Item)
 node_of source tokens word item = node_in source tokens word (out-Item item)
 
@@ -84,14 +89,16 @@ identifier_in source tokens (Item-F.Str t tag) = None
 identifier_in source tokens (Item-F.Bind t iri) = None
 identifier_in source tokens (Item-F.Node t items) = None
 
+-- the same of an item
 abbrev pub identifier_of : List ℕ → List Token → Item → Option (List ℕ)
 identifier_of source tokens item = identifier_in source tokens (out-Item item)
 
 -- the text of a string's token, without its quotes and its escapes
 abbrev pub string_word : TokenKind → List ℕ → Option (List ℕ)
-string_word Str bytes = Some (unescaped false (inside bytes))
+string_word Str bytes = Some (unescaped (inside bytes))
 string_word _ bytes = None
 
+-- the text of a token, if there is one and it is a string
 abbrev pub string_at : List ℕ → Option Token → Option (List ℕ)
 string_at source None = None
 string_at source (Some t) = string_word t.kind (span source t)
@@ -105,6 +112,7 @@ string_in source tokens (Item-F.Str t (Some tag)) = None
 string_in source tokens (Item-F.Bind t iri) = None
 string_in source tokens (Item-F.Node t items) = None
 
+-- the same of an item
 abbrev pub string_of : List ℕ → List Token → Item → Option (List ℕ)
 string_of source tokens item = string_in source tokens (out-Item item)
 
@@ -195,6 +203,7 @@ abbrev pub object_of : List ℕ → List Token → TableDecl → List ℕ → Li
 object_of source tokens table selected class symbol slots =
     option_and_then (λ word. option_and_then (λ numbers. Some (record { table = table; class = class; symbol = word; slots = numbers })) (slots_after source tokens (names_of table.columns) selected [] slots)) (identifier_of source tokens symbol)
 
+-- the items of an `Obj` node: its symbol and its slots
 abbrev pub object_in : List ℕ → List Token → TableDecl → List ℕ → List ℕ → List Item → Option Said
 object_in source tokens table selected class [] = None
 object_in source tokens table selected class (symbol ∷ slots) = object_of source tokens table selected class symbol slots
@@ -204,6 +213,7 @@ abbrev pub class_in : Result (List ℕ) ShapeBreach → Option (List ℕ)
 class_in (Ok iri) = if is_standard iri then None else Some iri
 class_in (Err breach) = None
 
+-- the IRI of a class, which is of none of the standard vocabularies
 abbrev pub class_of : List ℕ → List Token → List (List ℕ × List ℕ) → Item → Option (List ℕ)
 class_of source tokens namespaces item = class_in (iri_of source tokens namespaces item)
 
@@ -212,6 +222,7 @@ abbrev pub head_of : List ℕ → List Token → List (List ℕ × List ℕ) →
 head_of source tokens namespaces table selected class object =
     option_and_then (λ iri. option_and_then (λ items. object_in source tokens table selected iri items) (node_of source tokens (codes "Obj") object)) (class_of source tokens namespaces class)
 
+-- the items of a `Class` node: its IRI and its object
 abbrev pub head_in : List ℕ → List Token → List (List ℕ × List ℕ) → TableDecl → List ℕ → List Item → Option Said
 head_in source tokens namespaces table selected [] = None
 head_in source tokens namespaces table selected (class ∷ []) = None
@@ -223,6 +234,7 @@ abbrev pub map_of : List ℕ → List Token → List (List ℕ × List ℕ) → 
 map_of source tokens namespaces table query head =
     option_and_then (λ text. option_and_then (λ selected. option_and_then (λ items. head_in source tokens namespaces table selected items) (node_of source tokens (codes "Class") head)) (query_of table text)) (string_of source tokens query)
 
+-- the items of a `Map` node: its query and its head
 abbrev pub map_in : List ℕ → List Token → List (List ℕ × List ℕ) → TableDecl → List Item → Option Said
 map_in source tokens namespaces table [] = None
 map_in source tokens namespaces table (query ∷ []) = None
@@ -234,6 +246,7 @@ abbrev pub pair_of : List ℕ → List Token → List (List ℕ × List ℕ) →
 pair_of source tokens namespaces table map =
     option_and_then (λ columns. option_and_then (λ decl. option_and_then (λ items. map_in source tokens namespaces decl items) (node_of source tokens (codes "Map") map)) (table_in source tokens columns)) (node_of source tokens (codes "Table") table)
 
+-- the items of the main node: its table and its mapping
 abbrev pub pair_in : List ℕ → List Token → List (List ℕ × List ℕ) → List Item → Option Said
 pair_in source tokens namespaces [] = None
 pair_in source tokens namespaces (table ∷ []) = None
@@ -247,14 +260,6 @@ main_of source tokens (item ∷ items) =
     if length items == 0 then node_of source tokens (codes "Mappings") item
     else option_and_then (λ _. main_of source tokens items) (node_of source tokens (codes "Prefix") item)
 
-abbrev pub after_front : List ℕ → List Token → Result (List (List ℕ × List ℕ)) ShapeBreach → List Item → Option Said
-after_front source tokens (Ok namespaces) items = option_and_then (λ main. pair_in source tokens namespaces main) (main_of source tokens items)
-after_front source tokens (Err breach) items = None
-
--- what a document of this form says, by its prefixes and its main node
-abbrev pub form_of : List ℕ → List Token → List Item → Option Said
-form_of source tokens items = after_front source tokens (front source tokens (codes "Mappings") [] items) items
-
--- the same of the code's value
+-- what the code's value says
 abbrev pub said : Mapping → Said
 said mapping = record { table = mapping.table; class = mapping.class; symbol = mapping.symbol; slots = mapping.slots }

@@ -2,7 +2,7 @@
 use Rattle.std.specs.Prelude.{◌≡◌, ℕ, List, [], ◌∷◌, Some, codes}
 use Rattle.mast_tree.specs.declared.item.Item.{Item}
 use Rattle.mast_tree.specs.declared.token.Token.{Token}
-use Rattle.mast_tree.specs.PrefixNodes.{IsFront}
+use Rattle.mast_tree.specs.Prologue.{IsPrologue}
 use Rattle.mast_cli.specs.Columns.{names_of}
 use Rattle.mast_cli.specs.MappingForm.{Said, node_of, identifier_of, string_of, table_in, slots_after, class_of, main_of}
 use Rattle.mast_cli.specs.Queries.{IsQuery}
@@ -11,7 +11,7 @@ use Rattle.mast_cli.specs.Queries.{IsQuery}
 pub record IsForm (source : List ℕ) (tokens : List Token) (items : List Item) (said : Said) : Type 0 where
   -- prefixes, and a main node with a table and a mapping
   pub namespaces : List (List ℕ × List ℕ)
-  pub prefixes : IsFront source tokens (codes "Mappings") items namespaces
+  pub prefixes : IsPrologue source tokens (codes "Mappings") items namespaces
   pub table : Item
   pub map : Item
   pub main : main_of source tokens items ≡ Some (table ∷ map ∷ [])

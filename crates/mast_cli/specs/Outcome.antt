@@ -10,7 +10,7 @@ use Rattle.mast_tables.specs.declared.declaration.TableDecl.{TableDecl}
 use Rattle.mast_tables.specs.Breach.{HasRows, HasBreach}
 use Rattle.mast_tables.specs.Records.{records_of}
 use Rattle.mast_tables.specs.Rows.{Row}
-use Rattle.mast_tree.specs.declared.item.DocName.TheVariants as doc
+use Rattle.mast_tree.specs.declared.document.DocName.TheVariants as doc
 use Rattle.mast_tree.specs.declared.item.Item.{Item}
 use Rattle.mast_tree.specs.declared.item.TreeBreach.{TreeBreach}
 use Rattle.mast_tree.specs.declared.token.LexBreach.{LexBreach}

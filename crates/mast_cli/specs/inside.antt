@@ -2,5 +2,6 @@
 pub mod Causes
 pub mod Commands
 pub mod FactLines
+pub mod Form
 pub mod Tables
 pub mod Telling

@@ -1,7 +1,7 @@
 //! The table that a mapping document declares.
 ghost use Rattle.std.specs.Prelude.{◌≡◌, ◌≤◌, ◌<◌, ◌+◌, ◌++◌, ◌∷◌, [], length, map, not, true, IfOk, IfSome, None, Some};
 ghost use Rattle.mast_terms.specs.Vocabularies.{stands};
-ghost use Rattle.mast_tree.specs.Outcome.{Answers};
+ghost use Rattle.mast_terms.specs.Answers.{Answers};
 ghost use Rattle.mast_tree.specs.Source.{AreTokens};
 ghost use Rattle.mast_cli.specs.Columns.{names_of, number_of};
 ghost use Rattle.mast_cli.specs.inside.Tables.{IsIndexed, bytes_of};

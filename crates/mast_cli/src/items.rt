@@ -1,6 +1,6 @@
 //! The items that forms are made of.
 ghost use Rattle.std.specs.Prelude.{◌≡◌, None, Some, slice_get};
-ghost use Rattle.mast_tree.specs.Outcome.{Answers};
+ghost use Rattle.mast_terms.specs.Answers.{Answers};
 ghost use Rattle.mast_tree.specs.Source.{AreTokens};
 ghost use Rattle.mast_cli.specs.MappingForm as form;
 

@@ -1,10 +1,11 @@
 //! The one form of a mapping document that is read so far: one table, and one class over its rows.
 ghost use Rattle.std.specs.Prelude.{◌≡◌, ◌≤◌, length, IfOk, None, Some, []};
-ghost use Rattle.mast_tree.specs.Outcome.{Answers};
+ghost use Rattle.mast_terms.specs.Answers.{Answers};
 ghost use Rattle.mast_tree.specs.Source.{AreTokens};
 ghost use Rattle.mast_cli.specs.Columns.{names_of};
 ghost use Rattle.mast_cli.specs.MappingForm as form;
 ghost use Rattle.mast_cli.specs.Mappings.{IsForm};
+ghost use Rattle.mast_cli.specs.inside.Form.{form_of};
 ghost use Rattle.mast_cli.specs.inside.Tables.{AreColumns, FitsTable};
 
 use crate::declared::{Declared, read_table};
@@ -45,8 +46,9 @@ pub fn read_mapping(alloc: Global, doc: &Doc<'_>) -> Result<Mapping, Stop<Unbuil
 }
 
 // The same, read item by item.
+#[tactic(auto, using(mast_tree::proofs::PrologueLemmas::prologue_value))]
 fn read_form(alloc: Global, doc: &Doc<'_>) -> Result<Mapping, Stop<Unbuilt>>
-    ensures form { Answers result (λ mapping. AreTokens doc.now.source.now doc.now.tokens.now → form.form_of doc.now.source.now doc.now.tokens.now doc.now.items ≡ Some (form.said mapping)) (λ _. AreTokens doc.now.source.now doc.now.tokens.now → form.form_of doc.now.source.now doc.now.tokens.now doc.now.items ≡ None) }
+    ensures form { Answers result (λ mapping. AreTokens doc.now.source.now doc.now.tokens.now → form_of doc.now.source.now doc.now.tokens.now doc.now.items ≡ Some (form.said mapping)) (λ _. AreTokens doc.now.source.now doc.now.tokens.now → form_of doc.now.source.now doc.now.tokens.now doc.now.items ≡ None) }
     ensures fits { IfOk result FitsTable }
 {
     let prefixes = match prefixes(alloc, doc, "Mappings") {

@@ -1,7 +1,7 @@
 //! The source query that is read so far: columns of one table.
 ghost use Rattle.std.specs.Prelude.{◌≡◌, ◌++◌, ◌∷◌, [], false, IfOk, OnOk, None, Some};
 ghost use Rattle.std.specs.Str.{str_eq_ignore_ascii_case};
-ghost use Rattle.mast_tree.specs.Outcome.{Answers};
+ghost use Rattle.mast_terms.specs.Answers.{Answers};
 ghost use Rattle.mast_cli.specs.Columns.{names_of};
 ghost use Rattle.mast_cli.specs.MappingForm as form;
 

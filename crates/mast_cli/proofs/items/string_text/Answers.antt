@@ -8,7 +8,7 @@ returns-in_ok-text-in-Str c = λ a.
     let d = c.args.doc.now in
     let t = c.in-Some.t in
     let found = sym c.token_at.ensures ∙ c.in-Some.is in
-    text_at d.source.now d.tokens.now c.args.token t c.in_ok-text-in-Str.field-0 found c.in-Str.is (c.in_ok-text-in-Str.ensures a t found)
+    text_at d.source.now d.tokens.now c.args.token t c.in_ok-text-in-Str.field-0 found c.in-Str.is c.in_ok-text-in-Str.ensures.value
 
 pub returns-in_default : goal.returns-in_default
 returns-in_default c = λ a.

@@ -10,7 +10,10 @@ pub read_doc-requires : goal.read_doc-requires
 read_doc-requires c =
     let few = tokens_few c.args.bytes.now c.in-Ok.tokens c.in-Ok.ensures in
     let same = ap length c.as_slice.ensures in
-    omega (few, same, c.requires, arith)
+    record {
+      tokens = subst (λ ts. AreTokens c.args.bytes.now ts) (sym c.as_slice.ensures) c.in-Ok.ensures;
+      size = omega (few, same, c.requires, arith);
+    }
 
 -- The breach is that of the source's tokens.
 pub returns-in-Err-Named-read_doc-clause-told : goal.returns-in-Err-Named-read_doc-clause-told
