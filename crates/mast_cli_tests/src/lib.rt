@@ -56,7 +56,13 @@ fn a_fault_of_each_call_names_its_file(rt: HostRuntime) -> Result<(), Fail> {
     for call in 0..7u64 {
         let mut files = people(alloc, &[call], 1000)?;
         let mut sink = MemSink::new(alloc, Vec::new(alloc), 1000, 1000)?;
-        let status = run(&rt, alloc, &words(alloc, &["facts", "m.ofn"])?, &mut files, &mut sink);
+        let status = run(
+            &rt,
+            alloc,
+            &words(alloc, &["facts", "m.ofn"])?,
+            &mut files,
+            &mut sink,
+        );
         if call < 3 {
             assert_eq!(rt; status, Status::ReadFault);
             assert_eq!(rt; sink.written(), b"read fault \"m.ofn\"\n".as_slice());
@@ -80,7 +86,13 @@ fn a_fault_of_each_put_leaves_a_front(rt: HostRuntime) -> Result<(), Fail> {
         let mut failing = Vec::new(alloc);
         failing.push(put as u64)?;
         let mut sink = MemSink::new(alloc, failing, 7, 1000)?;
-        let status = run(&rt, alloc, &words(alloc, &["facts", "m.ofn"])?, &mut files, &mut sink);
+        let status = run(
+            &rt,
+            alloc,
+            &words(alloc, &["facts", "m.ofn"])?,
+            &mut files,
+            &mut sink,
+        );
         if put < 7 {
             assert_eq!(rt; status, Status::WriteFault);
             assert_eq!(rt;
@@ -100,7 +112,13 @@ fn a_run_that_nothing_disturbs_is_done(rt: HostRuntime) -> Result<(), Fail> {
     let alloc = rt.alloc();
     let mut files = SoundFiles::new(entries(alloc)?);
     let mut sink = SoundSink::new(alloc, 1000)?;
-    let status = run_sound(&rt, alloc, &words(alloc, &["facts", "m.ofn"])?, &mut files, &mut sink);
+    let status = run_sound(
+        &rt,
+        alloc,
+        &words(alloc, &["facts", "m.ofn"])?,
+        &mut files,
+        &mut sink,
+    );
     assert_eq!(rt; status, Status::Done);
     assert_eq!(rt; sink.written(), Some(TEXT.as_bytes()));
     Ok(())
@@ -132,9 +150,18 @@ fn words_that_cannot_be_had_are_no_task_or_want_of_memory(rt: HostRuntime) -> Re
     for (kind, expected) in kinds {
         let mut files = people(alloc, &[], 1000)?;
         let mut sink = MemSink::new(alloc, Vec::new(alloc), 1000, 1000)?;
-        let status = program(&rt, alloc, Err(io::Error::from(kind)), &mut files, &mut sink);
+        let status = program(
+            &rt,
+            alloc,
+            Err(io::Error::from(kind)),
+            &mut files,
+            &mut sink,
+        );
         assert_eq!(rt; status, expected);
-        assert_eq!(rt; sink.written().starts_with(b"usage: mastro"), status == Status::Usage);
+        assert_eq!(rt;
+            sink.written().starts_with(b"usage: mastro"),
+            status == Status::Usage
+        );
         assert_eq!(rt; sink.written().is_empty(), status == Status::NoMemory);
     }
     Ok(())

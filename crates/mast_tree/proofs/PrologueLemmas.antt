@@ -246,6 +246,7 @@ stops_at source tokens word table (item ∷ items) line h = elim (h.1) [
   | inr u ↦ at_part source tokens word table item items (wrong line) (h.0, inr u)
 ]
 
+-- what is right as the answer on the items is what is computed of them
 pub prologue_is : (source : List ℕ) (tokens : List Token) (word : List ℕ) (items : List Item) (r : Result (List (List ℕ × List ℕ)) ShapeBreach) → PrologueTells source tokens word items r → prologue_of source tokens word [] items ≡ r
 prologue_is source tokens word items (Ok table) h = reaches source tokens word items h.before (h.main ∷ h.after) table h.parts h.prefixes h.once ∙ at_part source tokens word table h.main h.after main (h.inside, h.node)
 prologue_is source tokens word items (Err breach) h =

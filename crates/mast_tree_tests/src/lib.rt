@@ -1,8 +1,10 @@
 //! Tests of mast_tree: what no clause says, that calls succeed, and that the definitions give the answers of worked inputs.
 #![tactic(auto)]
 
-use mast_tree::{Doc, Item, LexBreach, ShapeBreach, TokenKind, TreeBreach, prefixes, read_doc, tokens};
 use mast_terms::Stop;
+use mast_tree::{
+    Doc, Item, LexBreach, ShapeBreach, TokenKind, TreeBreach, prefixes, read_doc, tokens,
+};
 use std::alloc::{AllocError, Global};
 use std::test::Fail;
 
