@@ -1,4 +1,4 @@
--- The machine goes exactly where some document goes.
+-- The parser goes exactly where some document goes.
 use Rattle.std.proofs.Common.{◌≡◌, ℕ, zero, suc, true, List, ◌∷◌, [], ◌++◌, refl, ap, sym, ◌∙◌, append_assoc}
 use Rattle.std.proofs.lemmas.List.{append-nil}
 use Rattle.mast_source.specs.Grammar.{Begins}

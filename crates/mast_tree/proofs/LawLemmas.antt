@@ -6,7 +6,7 @@ use Rattle.mast_tree.specs.declared.item.Item.{Item}
 use Rattle.mast_tree.specs.declared.item.TreeBreach.{TreeBreach}
 use Rattle.mast_tree.specs.declared.item.TreeKind.{TreeKind}
 use Rattle.mast_tree.specs.declared.item.TreeKind.TheVariants.{Unexpected, Deep}
-use Rattle.mast_tree.specs.declared.parser.ParseState.TheVariants as place
+use Rattle.mast_tree.specs.declared.parser.ParseState.TheVariants as state
 use Rattle.mast_tree.specs.Grammar.{Found, fine, unexpected, deep, Tells}
 use Rattle.mast_tree.specs.inside.Parser.{look}
 use Rattle.mast_tree.specs.Trees.{items_from, Stand, kinds, IsTree, IsTreeBreach, found_of}
@@ -45,7 +45,7 @@ same_breach a b h = λ i. record { token = h.1 i; kind = h.0 i }
 -- tokens have one tree or one first breach
 pub has_one_tree : (tokens : List Token) → HasOneTree tokens
 has_one_tree tokens = record {
-  either = either_found tokens (look place.Item 0 (kinds tokens)) (look_exact (kinds tokens));
+  either = either_found tokens (look state.Item 0 (kinds tokens)) (look_exact (kinds tokens));
   not_both = λ items b t u. not_fine b.kind b.token (only_one (kinds tokens) fine (found_of b.kind b.token) (fine_of tokens items t) u);
   one_tree = λ a b t u. same_tree (kinds tokens) a b t.0 u.0;
   one_breach = λ a b t u. same_breach a b (same_found a.kind b.kind a.token b.token (only_one (kinds tokens) (found_of a.kind a.token) (found_of b.kind b.token) t u));

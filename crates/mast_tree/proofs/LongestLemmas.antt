@@ -4,6 +4,7 @@ use Rattle.std.proofs.lemmas.List.{append-nil, length-append}
 use Rattle.std.proofs.lemmas.Bool.{and_parts, cases_Bool}
 use Rattle.std.proofs.lemmas.Bool.Decides.{nat_tests}
 use Rattle.mast_source.proofs.ByteLemmas.{is_byte}
+use Rattle.mast_source.proofs.ListLemmas.{split_within}
 use Rattle.mast_tree.specs.declared.scanner.Enclosed.{Enclosed}
 use Rattle.mast_tree.specs.declared.scanner.Enclosed.TheVariants.{Whole, Endless, Bad}
 use Rattle.mast_tree.specs.declared.token.TokenKind.{TokenKind}
@@ -178,16 +179,6 @@ scanned_tells bs = go (longest_token bs) refl (scanned_form bs)
     go : (f : Scanned) → longest_token bs ≡ f → HasForm bs f → ScannedTells bs f
     go (Token k n) h t = (t.0, t.1, t.2, record { form = t.3; longest = longest k n t.0 t.1 (ap longest_token (sym t.2) ∙ h) t.4 }, t.4)
     go (Wrong k n) h t = ((λ j w rest e i. subst (λ x. AtLeast x j (length w)) (ap longest_token (sym e) ∙ h) (token_least j w rest i)), t)
-
--- two splits of one list, the first no longer than the second
-split_within : (w rest v after : List ℕ) → w ++ rest ≡ v ++ after → length w ≤ length v → (more : List ℕ) × (v ≡ w ++ more) × (rest ≡ more ++ after)
-split_within [] rest v after e h = (v, refl, e)
-split_within (b ∷ w) rest [] after e h = absurd (omega arith)
-split_within (b ∷ w) rest (c ∷ v) after e h =
-    let s : w ++ rest ≡ v ++ after = cc in
-    let t = split_within w rest v after s (omega arith) in
-    let same : c ≡ b = cc in
-    (t.0, ap (λ x. x ∷ v) same ∙ ap (λ x. b ∷ x) t.1, t.2)
 
 -- the longest token is found
 pub longest_of_token : (k : TokenKind) (w rest : List ℕ) → IsLongest k w rest → longest_token (w ++ rest) ≡ Token k (length w)

@@ -30,7 +30,7 @@ TellsFrom p d ks fine = (ends (run (at p d) ks) ≡ true) × ((i : ℕ) → Deep
 TellsFrom p d ks (unexpected i) = UnexpectedFrom (at p d) ks i × ((j : ℕ) → j ≤ i → DeepFrom d ks j → ⊥)
 TellsFrom p d ks (deep i) = DeepFrom d ks i × ((j : ℕ) → j < i → DeepFrom d ks j → ⊥) × Goes (run (at p d) (take i ks))
 
--- the parentheses that are open are those that the machine counts
+-- the parentheses that are open are those that the parser counts
 abbrev pub SameLevel : ℕ → TokenKind → Configuration → Type 0
 SameLevel d k stuck = Unit {0}
 SameLevel d k (at q e) = (xs : List TokenKind) → open_after d (k ∷ xs) ≡ open_after e xs

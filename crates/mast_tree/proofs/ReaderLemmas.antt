@@ -5,6 +5,7 @@ use Rattle.std.proofs.lemmas.Bool.{cases_Bool}
 use Rattle.std.proofs.lemmas.List.{length-take-le}
 use Rattle.std.proofs.Math.ListN.{get_or, drop_of_length-le}
 use Rattle.std.proofs.Math.Seq.{drop-cons, take-suc}
+use Rattle.mast_source.proofs.ListLemmas.{take_all}
 use Rattle.mast_tree.specs.declared.token.Token.{Token}
 use Rattle.mast_tree.specs.declared.token.TokenKind.{TokenKind}
 use Rattle.mast_tree.specs.declared.parser.ParseState.{ParseState}
@@ -26,12 +27,6 @@ kinds_length (t ∷ ts) = ap suc (kinds_length ts)
 pub kinds_append : (a b : List Token) → kinds (a ++ b) ≡ kinds a ++ kinds b
 kinds_append [] b = refl
 kinds_append (t ∷ a) b = ap (λ x. t.kind ∷ x) (kinds_append a b)
-
-take_whole : (tokens : List Token) (i : ℕ) → length tokens ≤ i → take i tokens ≡ tokens
-take_whole [] zero h = refl
-take_whole (t ∷ ts) zero h = absurd (omega arith)
-take_whole [] (suc i) h = refl
-take_whole (t ∷ ts) (suc i) h = ap (λ x. t ∷ x) (take_whole ts i (omega arith))
 
 -- the kind that comes, and those that were read with it
 
@@ -126,7 +121,7 @@ left_end tokens i n p d left h = ap (λ x. later n (look p d (kinds x))) (sym (d
 pub whole_read : (tokens : List Token) (trees : Trees) (items : List AnItem) (p : ParseState) (d n i : ℕ) → Reading tokens trees p d n i → length tokens ≤ i → ends (at p d) ≡ true → ((ks : List TokenKind) → GrownAt p trees ks → ends (at p (length trees.frames)) ≡ true → Stand ks items) → IsTree tokens items
 whole_read tokens trees items p d n i r h end stand =
     let told : Tells (kinds tokens) fine = exact (kinds tokens) fine (at_end (ends (at p d)) end ∙ left_end tokens i n p d r.left h) in
-    (stand (kinds tokens) (subst (λ x. GrownAt p trees (kinds x)) (take_whole tokens i h) r.grown) (ap (λ x. ends (at p x)) r.open_ones ∙ end), told.1)
+    (stand (kinds tokens) (subst (λ x. GrownAt p trees (kinds x)) (take_all tokens i h) r.grown) (ap (λ x. ends (at p x)) r.open_ones ∙ end), told.1)
   where
     at_end : (b : Bool) → b ≡ true → fine ≡ later n (if b then fine else unexpected 0)
     at_end true e = refl

@@ -54,8 +54,12 @@ IsWrong Escape n bytes = (chars rest : List ℕ) × (bytes ≡ quote ∷ (chars 
 
 -- after these tokens and a gap something else stands: the breach
 abbrev pub Stops : ℕ → List ℕ → List Token → LexBreach → Type 0
-Stops at bytes [] breach = (gap rest : List ℕ) × (n : ℕ) × (bytes ≡ gap ++ rest) × (are_blank false gap ≡ true) × NoBlank rest × NoToken rest × IsWrong breach.kind n rest × (breach.at ≡ at + length gap + n)
-Stops at bytes (t ∷ ts) breach = (gap word rest : List ℕ) × (bytes ≡ gap ++ (word ++ rest)) × (are_blank false gap ≡ true) × IsLongest t.kind word rest × (t.from ≡ at + length gap) × (t.to ≡ t.from + length word) × Stops t.to rest ts breach
+Stops at bytes [] breach =
+    (gap rest : List ℕ) × (n : ℕ) × (bytes ≡ gap ++ rest) × (are_blank false gap ≡ true) × NoBlank rest × NoToken rest
+    × IsWrong breach.kind n rest × (breach.at ≡ at + length gap + n)
+Stops at bytes (t ∷ ts) breach =
+    (gap word rest : List ℕ) × (bytes ≡ gap ++ (word ++ rest)) × (are_blank false gap ≡ true) × IsLongest t.kind word rest
+    × (t.from ≡ at + length gap) × (t.to ≡ t.from + length word) × Stops t.to rest ts breach
 
 -- the first lexical breach of a source
 abbrev pub IsLexBreach : List ℕ → LexBreach → Type 0

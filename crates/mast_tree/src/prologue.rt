@@ -11,7 +11,7 @@ use crate::{Doc, Item, PrefixTable, ShapeBreach, ShapeKind};
 use mast_terms::Stop;
 use std::alloc::Global;
 
-// What stands at a place of a document's prologue.
+// A part of a document's prologue.
 #[derive(Clone, Copy)]
 enum Part<'a> {
     // The node with the wanted word.

@@ -33,16 +33,16 @@ BeginsAt Item first n = Unit {0}
 BeginsAt _ first n = first ≡ n
 
 -- the trees stand for what was read, but for what is pending, the first token of which is known
-pub record GrownAt (place : ParseState) (trees : Trees) (ks : List TokenKind) : Type 0 where
+pub record GrownAt (state : ParseState) (trees : Trees) (ks : List TokenKind) : Type 0 where
   pub whole : List TokenKind
   pub grown : Grown 0 trees.frames trees.items whole
-  pub read : ks ≡ whole ++ pending place
-  pub begins : BeginsAt place trees.first (length whole)
+  pub read : ks ≡ whole ++ pending state
+  pub begins : BeginsAt state trees.first (length whole)
 
 -- the trees go on as the parser does
 abbrev pub GrowsTo : Configuration → Trees → List TokenKind → Type 0
 GrowsTo stuck trees ks = Unit {0}
-GrowsTo (at place depth) trees ks = GrownAt place trees ks × (length trees.frames ≡ depth)
+GrowsTo (at state depth) trees ks = GrownAt state trees ks × (length trees.frames ≡ depth)
 
 -- the open nodes with one more, whose name was begun
 abbrev pub opened : Trees → List Frame
