@@ -10,3 +10,8 @@ pub mod Tokens
 pub mod Trees
 pub mod Words
 pub mod inside
+pub mod Said
+pub mod Judgements
+pub mod Layers
+pub mod Names
+pub mod Constants

@@ -4,9 +4,12 @@
 //! It must not know what a node means: neither axioms nor tables.
 #![tactic(auto)]
 
+mod constants;
 mod document;
 mod item;
 mod laws;
+mod layer;
+mod names;
 mod parser;
 mod prefix;
 mod prologue;
@@ -20,6 +23,7 @@ mod words;
 pub use document::{Doc, DocName, read_doc};
 pub use item::{Item, TreeBreach, TreeKind};
 pub use laws::{prologue_law, span_law, token_law, tree_law};
+pub use layer::Layer;
 pub use prefix::PrefixTable;
 pub use prologue::prefixes;
 pub use shape::{ShapeBreach, ShapeKind};
