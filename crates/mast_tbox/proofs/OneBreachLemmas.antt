@@ -1,6 +1,6 @@
 -- The restriction breach has one answer: a breach or none, and always one of these.
 use Rattle.std.proofs.Common.{◌≡◌, ◌⊎◌, inl, inr, Option, Some, None, List, [], ◌∷◌, ◌++◌, Contains, refl, sym, ap, subst, ◌∙◌}
-use Rattle.mast_tree.specs.declared.item.DocName.TheVariants.{Ontology, Constraints}
+use Rattle.mast_tree.specs.declared.document.DocName.TheVariants.{Ontology, Constraints}
 use Rattle.mast_cq.specs.Sorts.{IsFirst}
 use Rattle.mast_tbox.specs.declared.expression.Prop.{Prop}
 use Rattle.mast_tbox.specs.declared.axiom.Inclusion.{Inclusion}

@@ -1,6 +1,6 @@
 -- Restrictions: which properties are specialised, and the first breach.
 use Rattle.std.specs.Prelude.{◌≡◌, List, [], ◌∷◌, Option, Some, None, Contains, ◌⊎◌}
-use Rattle.mast_tree.specs.declared.item.DocName.TheVariants.{Ontology, Constraints}
+use Rattle.mast_tree.specs.declared.document.DocName.TheVariants.{Ontology, Constraints}
 use Rattle.mast_cq.specs.Sorts.{IsFirst}
 use Rattle.mast_tbox.specs.declared.expression.Prop.{Prop}
 use Rattle.mast_tbox.specs.declared.expression.Prop.TheVariants.{Role as PRole, Attr as PAttr}

@@ -1,7 +1,7 @@
 -- Judging the restrictions by the chiefs of properties.
 use Rattle.std.specs.Prelude.{ℕ, List, [], ◌∷◌, Option, Some, None, Bool, true, false, ◌||◌, if◌then◌else◌, map}
 use Rattle.indexmap.specs.IndexSet.{insert_all}
-use Rattle.mast_tree.specs.declared.item.DocName.TheVariants.{Constraints}
+use Rattle.mast_tree.specs.declared.document.DocName.TheVariants.{Constraints}
 use Rattle.mast_tbox.specs.declared.expression.Prop.{Prop}
 use Rattle.mast_tbox.specs.declared.expression.Prop.TheVariants.{Role as PRole, Attr as PAttr}
 use Rattle.mast_tbox.specs.declared.axiom.Inclusion.{Inclusion}

@@ -1,5 +1,5 @@
 use Rattle.std.proofs.Common.{Some, sym, subst, ◌∙◌}
-use Rattle.mast_tree.specs.declared.item.DocName.TheVariants.{Ontology}
+use Rattle.mast_tree.specs.declared.document.DocName.TheVariants.{Ontology}
 use Rattle.mast_tbox.specs.declared.restriction.RestrictionKind.TheVariants.{FunctSpecialised}
 use Rattle.mast_tbox.specs.Restrictions.{IsRestrictionBreach}
 use Rattle.mast_tbox.specs.inside.Chosen.{chief_of}
