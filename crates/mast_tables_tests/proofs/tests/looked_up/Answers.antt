@@ -1,7 +1,8 @@
+-- The steps of the loop.
 use Rattle.std.proofs.Common.{length, ap, arith}
 use Rattle.mast_tables.specs.Records.{records_of}
 use Rattle.mast_tables.proofs.RecordsLemmas.{is_place}
-use Rattle.mast_tables_tests.proofs.looked_up.Goals as goal
+use Rattle.mast_tables_tests.proofs.tests.looked_up.Goals as goal
 
 pub cell-requires : goal.cell-requires
 cell-requires c =

@@ -1,7 +1,8 @@
+-- The steps of the loop.
 use Rattle.std.proofs.Common.{length, ap, refl, ◌∙◌, arith, length-append}
 use Rattle.mast_tbox.specs.Numbers.{numbers}
 use Rattle.mast_tbox.proofs.NumberLemmas.{numbered_plain}
-use Rattle.mast_tbox_tests.proofs.roles.Goals as goal
+use Rattle.mast_tbox_tests.proofs.tests.roles.Goals as goal
 
 pub loop-line-preserved : goal.loop-line-preserved
 loop-line-preserved c = record {
