@@ -1,5 +1,6 @@
 -- How what a stage tells of bytes becomes what a run tells of files.
-use Rattle.std.proofs.Common.{◌≡◌, ◌∙◌, ◌≤◌, ℕ, List, [], Option, Some, None, Result, Ok, Err, IfOk, IfSome, length, take, subst, sym, inl, inr, refl}
+use Rattle.std.proofs.Common.{◌≡◌, ◌∙◌, ◌+◌, ◌-◌, ◌≤◌, ℕ, List, [], ◌++◌, Option, Some, None, Result, Ok, Err, IfOk, IfSome, length, take, subst, sym, inl, inr, refl, arith}
+use Rattle.std.proofs.lemmas.List.{length-append}
 use Rattle.mast_terms.specs.declared.memory.NoMemory.{NoMemory}
 use Rattle.mast_terms.specs.declared.memory.Stop.{Stop}
 use Rattle.mast_terms.specs.declared.memory.Stop.TheVariants as stop
@@ -13,7 +14,9 @@ use Rattle.mast_cli.specs.Lines.{unbuilt}
 use Rattle.mast_cli.specs.MappingForm.{Said, said}
 use Rattle.mast_cli.specs.Mappings.{IsForm}
 use Rattle.mast_files.specs.Causes.{Rose}
-use Rattle.mast_files.specs.Outside.{Contents, Reading, Gains}
+use Rattle.mast_files.specs.Outside.{Contents, Reading, Writing, Tells, Gains}
+use Rattle.mast_files.specs.States.{SoundFilesState, SoundSinkState, left_within}
+use Rattle.mast_files.proofs.OutsideLemmas.{Tells-told}
 use Rattle.mast_tables.specs.Rows.{Row}
 use Rattle.mast_cli.specs.declared.judged.Judged.{Judged}
 use Rattle.mast_cli.specs.declared.judged.Stage.{Stage}
@@ -24,7 +27,7 @@ use Rattle.mast_cli.specs.declared.status.Status.{Status}
 use Rattle.mast_cli.specs.declared.status.Status.TheVariants as st
 use Rattle.mast_cli.specs.inside.Causes.{HasCause, JudgedHasCause, StageIsEvent}
 use Rattle.mast_cli.specs.Facts.{IsFactLine}
-use Rattle.mast_cli.specs.Run.{IsAnswer, FailedFile, GivesOutcome, GivesFront, GivesPart}
+use Rattle.mast_cli.specs.Run.{Words, IsAnswer, FailedFile, GivesOutcome, GivesFront, GivesPart, WritesSoundly, TellsText}
 use Rattle.mast_cli.specs.LinesText.{IsTextOf}
 use Rattle.mast_cli.specs.Outcome.{Declares, DocumentEvent, HasMapping, MappingsEvent, HasTable, TableEvent, FactsOutcome, JudgesOf, Outcome, Judges}
 use Rattle.mast_cli.specs.inside.Telling.{EndsAs, TellsBytes, TellsFile, TellsFacts, TellsRun}
@@ -114,12 +117,25 @@ ends_answer P Q reading st.WriteFault text a h = absurd a
 ends_answer P Q reading st.NoMemory text a h = absurd a
 
 -- the text of an answer that went out whole is that of the outcome
-pub run_outcome : (told : Option Contents) (words : List (List ℕ)) (reading : Reading) (judged : Judged) (old new : Option (List ℕ)) (bytes : List ℕ)
+pub run_outcome : (told : Option Contents) (words : List (List ℕ)) (reading : Reading) (judged : Judged) (old new : Writing) (bytes : List ℕ)
     → bytes ≡ judged.text.items → Gains old new bytes → IfSome told (λ contents. TellsRun words reading contents judged) → IsAnswer judged.status
     → IfSome told (λ contents. GivesOutcome words contents judged.status old new)
 run_outcome None words reading judged old new bytes same gains tells answer = tt
 run_outcome (Some contents) words reading judged old new bytes same gains tells answer =
     (judged.text.items, ends_answer (Outcome words contents) (Judges words contents) reading judged.status judged.text.items answer tells, subst (λ b. Gains old new b) same gains)
+
+told_room : (room : ℕ) (old new : Option (List ℕ)) (text : List ℕ) → Tells (Some (left_within room old)) old new text
+    → IfSome old (λ before. length (before ++ text) ≤ room → new ≡ Some (before ++ text))
+told_room room None new text h = tt
+told_room room (Some before) new text h = λ within.
+    let both : length before + length text ≤ room = rw (sym (length-append before text)) within in
+    Tells-told (Some (room - length before)) before text new (λ lacks. omega (arith, lacks, both)) h
+
+-- what a sink in memory was given it tells, if there is room for it
+pub text_told : (words : Words) (files : SoundFilesState) (status : Status) (old new : SoundSinkState) → WritesSoundly words files status old new → TellsText words files status old new
+text_told words files status old new writes answer =
+    let given = writes answer in
+    (given.0, given.1, told_room old.room old.written new.written given.0 given.2.0)
 
 place_of : (words : List (List ℕ)) (contents : Contents) (before now : ℕ) (reading : Reading) (status : Status) (text : List ℕ)
     → status ≡ st.ReadFault → EndsAs (Outcome words contents) (Judges words contents) reading status text → HasCause before now reading status text → FailedFile reading (Judges words contents)
@@ -138,7 +154,7 @@ run_place (Some contents) words before now reading judged tells cause e = place_
 one_name : (o : Option (List ℕ)) (a b : List ℕ) → o ≡ Some a → o ≡ Some b → b ≡ a
 one_name o a b e f = let both : Some b ≡ Some a = sym f ∙ e in cc
 
-part_of : (words : List (List ℕ)) (contents : Contents) (before now : ℕ) (reading : Reading) (old new : Option (List ℕ)) (status : Status) (text : List ℕ)
+part_of : (words : List (List ℕ)) (contents : Contents) (before now : ℕ) (reading : Reading) (old new : Writing) (status : Status) (text : List ℕ)
     → EndsAs (Outcome words contents) (Judges words contents) reading status text → HasCause before now reading status text → GivesFront old new text
     → GivesPart words contents reading (Rose before now) (GivesFront old new)
 part_of words contents before now reading old new st.Done text h cause front = inl (st.Done, text, h, front)
@@ -153,7 +169,7 @@ part_of words contents before now reading old new st.WriteFault text h cause fro
 part_of words contents before now reading old new st.NoMemory text h cause front = absurd cause
 
 -- what went out before a write fault is a front of a text that was to be written
-pub run_part : (told : Option Contents) (words : List (List ℕ)) (before now : ℕ) (reading : Reading) (judged : Judged) (old new : Option (List ℕ)) (bytes : List ℕ) (gone : ℕ)
+pub run_part : (told : Option Contents) (words : List (List ℕ)) (before now : ℕ) (reading : Reading) (judged : Judged) (old new : Writing) (bytes : List ℕ) (gone : ℕ)
     → bytes ≡ judged.text.items → Gains old new (take gone bytes)
     → IfSome told (λ contents. TellsRun words reading contents judged) → JudgedHasCause before now reading judged
     → IfSome told (λ contents. GivesPart words contents reading (Rose before now) (GivesFront old new))

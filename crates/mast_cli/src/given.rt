@@ -29,7 +29,7 @@ pub fn program<Rt: Threads + Sync, F: Files, S: Sink>(
     ensures unread { WantsMemory words → result ≡ Status.NoMemory }
 
     // An answer is that of the definitions, and the sink was given exactly its text.
-    ensures outcome { WritesText (given words) (F.contents files.old) result (S.written sink.old) (S.written sink.new) }
+    ensures outcome { WritesText (given words) (F.contents files.old) result (S.writing sink.old) (S.writing sink.new) }
 
     // No fault came then.
     ensures no_read_fault { IsAnswer result → F.faults files.new ≡ F.faults files.old }
@@ -37,7 +37,7 @@ pub fn program<Rt: Threads + Sync, F: Files, S: Sink>(
 
     // A read fault comes only where the count of the files' faults rose; the sink was given exactly its line.
     ensures read_fault { result ≡ Status.ReadFault → Rose (F.faults files.old) (F.faults files.new) }
-    ensures read_fault_line { WritesFaultLine (F.reading files.new) result (S.written sink.old) (S.written sink.new) }
+    ensures read_fault_line { WritesFaultLine (F.reading files.new) result (S.writing sink.old) (S.writing sink.new) }
 
     // Its file is one that the run judges, and no event stands at an earlier place.
     ensures read_fault_place { FaultsInPlace (given words) (F.contents files.old) (F.reading files.new) result }
@@ -47,11 +47,11 @@ pub fn program<Rt: Threads + Sync, F: Files, S: Sink>(
 
     // What went out is a front of the text that was to be written.
     ensures write_fault_text { let rose = Rose (F.faults files.old) (F.faults files.new) in
-        let front = GivesFront (S.written sink.old) (S.written sink.new) in
+        let front = GivesFront (S.writing sink.old) (S.writing sink.new) in
         WritesPart (given words) (F.contents files.old) (F.reading files.new) rose front result }
 
     // Without memory nothing is written.
-    ensures no_memory { result ≡ Status.NoMemory → S.written sink.new ≡ S.written sink.old }
+    ensures no_memory { result ≡ Status.NoMemory → S.writing sink.new ≡ S.writing sink.old }
 
     // A fault of the files is told.
     ensures told { F.faults files.old < F.faults files.new → IsNoAnswer result }

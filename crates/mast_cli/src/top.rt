@@ -1,8 +1,8 @@
 //! The top call.
-ghost use Rattle.std.specs.Prelude.{◌≡◌, ◌⊎◌, ◌<◌, Some};
+ghost use Rattle.std.specs.Prelude.{◌≡◌, ◌⊎◌, ◌<◌};
 ghost use Rattle.mast_files.specs.Causes.{Rose};
-ghost use Rattle.mast_files.specs.Stored.{content_of};
 ghost use Rattle.mast_cli.specs.Run.{IsAnswer, IsNoAnswer, GivesFront, WritesText, WritesFaultLine, FaultsInPlace, WritesPart};
+ghost use Rattle.mast_cli.specs.Run.{WritesSoundly, TellsText};
 
 use crate::stages::judge;
 use crate::status::Status;
@@ -23,7 +23,7 @@ pub fn run<Rt: Threads + Sync, F: Files, S: Sink>(
     sink: &mut S,
 ) -> Status
     // An answer is that of the definitions, and the sink was given exactly its text.
-    ensures outcome { WritesText words.now (F.contents files.old) result (S.written sink.old) (S.written sink.new) }
+    ensures outcome { WritesText words.now (F.contents files.old) result (S.writing sink.old) (S.writing sink.new) }
 
     // No fault came then.
     ensures no_read_fault { IsAnswer result → F.faults files.new ≡ F.faults files.old }
@@ -31,7 +31,7 @@ pub fn run<Rt: Threads + Sync, F: Files, S: Sink>(
 
     // A read fault comes only where the count of the files' faults rose; the sink was given exactly its line.
     ensures read_fault { result ≡ Status.ReadFault → Rose (F.faults files.old) (F.faults files.new) }
-    ensures read_fault_line { WritesFaultLine (F.reading files.new) result (S.written sink.old) (S.written sink.new) }
+    ensures read_fault_line { WritesFaultLine (F.reading files.new) result (S.writing sink.old) (S.writing sink.new) }
 
     // Its file is one that the run judges, and no event stands at an earlier place.
     ensures read_fault_place { FaultsInPlace words.now (F.contents files.old) (F.reading files.new) result }
@@ -41,11 +41,11 @@ pub fn run<Rt: Threads + Sync, F: Files, S: Sink>(
 
     // What went out is a front of the text that was to be written.
     ensures write_fault_text { let rose = Rose (F.faults files.old) (F.faults files.new) in
-        let front = GivesFront (S.written sink.old) (S.written sink.new) in
+        let front = GivesFront (S.writing sink.old) (S.writing sink.new) in
         WritesPart words.now (F.contents files.old) (F.reading files.new) rose front result }
 
     // Without memory nothing is written.
-    ensures no_memory { result ≡ Status.NoMemory → S.written sink.new ≡ S.written sink.old }
+    ensures no_memory { result ≡ Status.NoMemory → S.writing sink.new ≡ S.writing sink.old }
 
     // A fault of the files is told.
     ensures told { F.faults files.old < F.faults files.new → IsNoAnswer result }
@@ -69,7 +69,12 @@ pub fn run_sound<Rt: Threads + Sync>(
     sink: &mut SoundSink,
 ) -> Status
     ensures complete { (result ≡ Status.NoMemory) ⊎ IsAnswer result }
-    ensures outcome { WritesText words.now (Some (content_of files.old.files)) result sink.old.written sink.new.written }
+    ensures outcome { WritesSoundly words.now files.old result sink.old sink.new }
+
+    // Where the sink has room for the text, the text is told.
+    ensures told { TellsText words.now files.old result sink.old sink.new }
+
+    // Without memory nothing is written.
     ensures no_memory { result ≡ Status.NoMemory → sink.new.written ≡ sink.old.written }
 {
     run(rt, alloc, words, files, sink)

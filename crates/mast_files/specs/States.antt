@@ -2,7 +2,7 @@
 use Rattle.std.specs.Prelude.{ℕ, ◌+◌, ◌-◌, ◌^◌, min, nat_eq, Bool, false, List, [], length, Option, Some, None}
 use Rattle.std.specs.List.{list_any}
 use Rattle.mast_files.specs.Calls.{Call, passed}
-use Rattle.mast_files.specs.Outside.{Contents, Reading}
+use Rattle.mast_files.specs.Outside.{Contents, Reading, Writing}
 use Rattle.mast_files.specs.Stored.{content_of}
 
 -- one more, up to the end of a counter of 64 bits
@@ -85,10 +85,23 @@ pub record MemSinkState : Type 0 where
 abbrev pub mem_sink : List ℕ → ℕ → ℕ → MemSinkState
 mem_sink failing most room = record { written = []; room = room; failing = failing; most = most; calls = 0; faults = 0 }
 
+-- what a `MemSink` tells: all that was written, at all times
+abbrev pub mem_writing : MemSinkState → Writing
+mem_writing state = record { written = Some state.written; room = None }
+
 -- a `SoundSink`: what was written while that is at most its room, and the room
 pub record SoundSinkState : Type 0 where
   pub written : Option (List ℕ)
   pub room : ℕ
+
+-- how much room what was written leaves: none, where it is not told
+abbrev pub left_within : ℕ → Option (List ℕ) → ℕ
+left_within room None = 0
+left_within room (Some written) = room - length written
+
+-- what a `SoundSink` tells
+abbrev pub sound_writing : SoundSinkState → Writing
+sound_writing state = record { written = state.written; room = Some (left_within state.room state.written) }
 
 -- what an open file has left, where it tells it
 abbrev pub left_of : {File : Type 0} → (File → Option (List ℕ)) → Option File → Option (List ℕ)
@@ -125,6 +138,6 @@ pub record StdSinkState : Type 0 where
   pub writes : List Call
   pub faults : ℕ
 
--- what a `StdSink` tells as written: what the system took
-abbrev pub std_written : StdSinkState → Option (List ℕ)
-std_written state = Some (passed state.writes)
+-- what a `StdSink` tells as written: what the system took, at all times
+abbrev pub std_writing : StdSinkState → Writing
+std_writing state = record { written = Some (passed state.writes); room = None }

@@ -1,7 +1,7 @@
 //! A sink in memory, of which calls can be made to fail.
-ghost use Rattle.std.specs.Prelude.{◌≡◌, ◌<◌, ◌≤◌, length, Some, IfOk};
+ghost use Rattle.std.specs.Prelude.{◌≡◌, ◌<◌, ◌≤◌, length, IfOk};
 ghost use Rattle.mast_files.specs.Causes.{Counts};
-ghost use Rattle.mast_files.specs.States.{MemSinkState, mem_sink};
+ghost use Rattle.mast_files.specs.States.{MemSinkState, mem_sink, mem_writing};
 ghost use Rattle.mast_files.specs.Steps.{PutsInMemory};
 
 use crate::calls::Calls;
@@ -50,7 +50,7 @@ impl MemSink {
         ensures made { IfOk result (λ sink. sink ≡ mem_sink failing.items most room) }
 
         // What each state tells is just in its fields.
-        ensures written { (state : MemSinkState) → ⟦<MemSink as Sink>⟧.written state ≡ Some state.written }
+        ensures writing { (state : MemSinkState) → ⟦<MemSink as Sink>⟧.writing state ≡ mem_writing state }
         ensures faults { (state : MemSinkState) → ⟦<MemSink as Sink>⟧.faults state ≡ state.faults }
     {
         Ok(MemSink {
@@ -77,7 +77,7 @@ impl MemSink {
 }
 
 impl Sink for MemSink {
-    ghost written = { λ s. Some s.written };
+    ghost writing = { mem_writing };
 
     ghost faults = { λ s. s.faults };
 

@@ -1,7 +1,7 @@
 //! A sink in memory that never fails.
 ghost use Rattle.std.specs.Prelude.{◌≡◌, [], Some, IfOk};
 ghost use Rattle.std.specs.Option.{option_map};
-ghost use Rattle.mast_files.specs.States.{SoundSinkState};
+ghost use Rattle.mast_files.specs.States.{SoundSinkState, sound_writing};
 ghost use Rattle.mast_files.specs.Steps.{PutsSoundly};
 
 use crate::{Failed, Sink};
@@ -35,7 +35,7 @@ impl SoundSink {
         ensures made { IfOk result (λ sink. sink ≡ record { written = Some []; room = room }) }
 
         // What each state tells is just in its fields.
-        ensures written { (state : SoundSinkState) → ⟦<SoundSink as Sink>⟧.written state ≡ state.written }
+        ensures writing { (state : SoundSinkState) → ⟦<SoundSink as Sink>⟧.writing state ≡ sound_writing state }
         ensures never_fails { (state : SoundSinkState) → ⟦<SoundSink as Sink>⟧.faults state ≡ 0 }
     {
         Ok(SoundSink {
@@ -54,7 +54,7 @@ impl SoundSink {
 }
 
 impl Sink for SoundSink {
-    ghost written = { λ s. s.written };
+    ghost writing = { sound_writing };
 
     ghost faults = { λ _. 0 };
 

@@ -2,7 +2,7 @@
 ghost use Rattle.std.specs.Prelude.{◌≡◌, ◌≤◌, ◌<◌, [], length, Some, IfOk};
 ghost use Rattle.mast_files.specs.Causes.{Counts};
 ghost use Rattle.mast_files.specs.Outside.{Puts};
-ghost use Rattle.mast_files.specs.States.{StdSinkState, std_written};
+ghost use Rattle.mast_files.specs.States.{StdSinkState, std_writing};
 ghost use Rattle.mast_files.specs.Steps.{PutsOut};
 
 use crate::os::Output;
@@ -20,7 +20,7 @@ pub struct StdSink<'a, P: Print> {
 }
 
 impl<'a, P: Print> Model for StdSink<'a, P> {
-    ghost use Rattle.mast_files.specs.States.{StdSinkState, std_written};
+    ghost use Rattle.mast_files.specs.States.{StdSinkState};
 
     ghost Value = { StdSinkState };
 
@@ -31,10 +31,10 @@ impl<'a, P: Print> StdSink<'a, P> {
     /// Nothing was taken and there was no fault yet.
     pub fn new(rt: &'a P) -> StdSink<'a, P>
         ensures made { result ≡ record { writes = []; faults = 0 } }
-        ensures nothing { ⟦<StdSink<'a, P> as Sink>⟧.written result ≡ Some [] }
+        ensures nothing { (⟦<StdSink<'a, P> as Sink>⟧.writing result).written ≡ Some [] }
 
         // What each state tells is what went through its calls, and its count of faults.
-        ensures written { (state : StdSinkState) → ⟦<StdSink<'a, P> as Sink>⟧.written state ≡ std_written state }
+        ensures writing { (state : StdSinkState) → ⟦<StdSink<'a, P> as Sink>⟧.writing state ≡ std_writing state }
         ensures faults { (state : StdSinkState) → ⟦<StdSink<'a, P> as Sink>⟧.faults state ≡ state.faults }
     {
         StdSink {
@@ -45,14 +45,14 @@ impl<'a, P: Print> StdSink<'a, P> {
 }
 
 impl<P: Print> Sink for StdSink<'_, P> {
-    ghost written = { std_written };
+    ghost writing = { std_writing };
 
     ghost faults = { λ s. s.faults };
 
     fn put(&mut self, piece: &[u8]) -> Result<usize, Failed>
         requires some { 0 < length piece.now }
         ensures exact { PutsOut self.old piece.now result self.new }
-        ensures bytes { Puts (std_written self.old) piece.now result (std_written self.new) }
+        ensures bytes { Puts (std_writing self.old) piece.now result (std_writing self.new) }
         ensures bound { IfOk result (λ n. (0 < n) × (n ≤ length piece.now)) }
         ensures cause { Counts self.old.faults self.new.faults result }
     {
