@@ -1,5 +1,5 @@
 -- The arguments of a normal form come from the query.
-use Rattle.std.proofs.Common.{◌≡◌, ℕ, zero, suc, ◌<◌, List, [], ◌∷◌, map, Bool, true, false, nat_eq, Some, None, Option, ◌⊎◌, inl, inr, sym, refl, subst, ◌∙◌}
+use Rattle.std.proofs.Common.{◌≡◌, ℕ, zero, suc, List, [], ◌∷◌, map, Bool, true, false, nat_eq, Some, None, Option, ◌⊎◌, inl, inr, sym, refl, subst, ◌∙◌}
 use Rattle.std.specs.List.{AllByRecursion}
 use Rattle.mast_terms.specs.declared.name.NameKind.{NameKind}
 use Rattle.mast_terms.specs.declared.name.NameKind.TheVariants as kinds
@@ -9,7 +9,7 @@ use Rattle.mast_cq.specs.declared.atom.Atom.{Atom}
 use Rattle.mast_cq.specs.declared.atom.Atom.TheVariants.{Class, Role, Attr}
 use Rattle.mast_cq.specs.declared.query.Cq.{Cq}
 use Rattle.mast_cq.specs.NormalForms.{blank_arg, blank, alone, first_var, in_order, without, settle, places, normal_form}
-use Rattle.mast_cq.specs.Origins.{IsFrom, ComesFrom, SomeAtom, AreFrom, DrawsFrom, KnownQuery, NameBelow, NamesBelow}
+use Rattle.mast_cq.specs.Origins.{IsFrom, ComesFrom, SomeAtom, AreFrom, DrawsFrom, KnownQuery, Named}
 use Rattle.mast_cq.specs.Queries.{In}
 use Rattle.mast_cq.specs.Sorts.{objects_of, values_of, arguments_of, of_all, Clashes, EachHasOneSort}
 use Rattle.mast_cq.specs.UnifierMeanings.{IsBelow, KnownArg, KnownAtom}
@@ -202,16 +202,16 @@ comes_known P (Attr a x y) (Class b z) p k = absurd p
 comes_known P (Attr a x y) (Role b z w) p k = absurd p
 comes_known P (Attr a x y) (Attr b z w) p k = (known_from P x z p.1 k.0, known_from P y w p.2 k.1)
 
-comes_named : (sizes : NameKind → ℕ) (g h : Atom) → ComesFrom g h → NameBelow sizes h → NameBelow sizes g
-comes_named sizes (Class a x) (Class b z) p k = subst (λ n. n.0 < sizes kinds.Class) (sym p.0) k
-comes_named sizes (Class a x) (Role b z w) p k = absurd p
-comes_named sizes (Class a x) (Attr b z w) p k = absurd p
-comes_named sizes (Role a x y) (Class b z) p k = absurd p
-comes_named sizes (Role a x y) (Role b z w) p k = subst (λ n. n.0 < sizes kinds.Role) (sym p.0) k
-comes_named sizes (Role a x y) (Attr b z w) p k = absurd p
-comes_named sizes (Attr a x y) (Class b z) p k = absurd p
-comes_named sizes (Attr a x y) (Role b z w) p k = absurd p
-comes_named sizes (Attr a x y) (Attr b z w) p k = subst (λ n. n.0 < sizes kinds.Attr) (sym p.0) k
+comes_named : (P : NameKind → ℕ → Type 0) (g h : Atom) → ComesFrom g h → Named P h → Named P g
+comes_named P (Class a x) (Class b z) p k = subst (λ n. P kinds.Class n.0) (sym p.0) k
+comes_named P (Class a x) (Role b z w) p k = absurd p
+comes_named P (Class a x) (Attr b z w) p k = absurd p
+comes_named P (Role a x y) (Class b z) p k = absurd p
+comes_named P (Role a x y) (Role b z w) p k = subst (λ n. P kinds.Role n.0) (sym p.0) k
+comes_named P (Role a x y) (Attr b z w) p k = absurd p
+comes_named P (Attr a x y) (Class b z) p k = absurd p
+comes_named P (Attr a x y) (Role b z w) p k = absurd p
+comes_named P (Attr a x y) (Attr b z w) p k = subst (λ n. P kinds.Attr n.0) (sym p.0) k
 
 -- what each atom of the query has, and what comes from it keeps, each atom of the normal form has
 pub normal_keeps : (P : Atom → Type 0) → ((g h : Atom) → ComesFrom g h → P h → P g) → (q : Cq) → AllByRecursion P q.atoms → AllByRecursion P (normal_form q).atoms
@@ -221,9 +221,9 @@ normal_keeps P k q all = in_each P (normal_form q).atoms (λ g i. let w = normal
 pub normal_known : (bound : ℕ) (q : Cq) → KnownQuery bound q → KnownQuery bound (normal_form q)
 normal_known bound q k = record { answer = k.answer; atoms = normal_keeps (KnownAtom (IsBelow bound)) (comes_known (IsBelow bound)) q k.atoms }
 
--- names stay in range
-pub normal_names : (sizes : NameKind → ℕ) (q : Cq) → NamesBelow sizes q → NamesBelow sizes (normal_form q)
-normal_names sizes q k = normal_keeps (NameBelow sizes) (comes_named sizes) q k
+-- what holds of the names of the query holds of those of its normal form
+pub normal_names : (P : NameKind → ℕ → Type 0) (q : Cq) → AllByRecursion (Named P) q.atoms → AllByRecursion (Named P) (normal_form q).atoms
+normal_names P q k = normal_keeps (Named P) (comes_named P) q k
 
 same_from : (ys : List Arg) (x : Arg) → (x ≡ Blank → ⊥) → (x ≡ Blank) ⊎ In x ys → In x ys
 same_from ys x k (inl e) = absurd (k e)

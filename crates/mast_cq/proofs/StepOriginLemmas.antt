@@ -7,7 +7,7 @@ use Rattle.mast_cq.specs.declared.atom.Arg.TheVariants.{Blank, Var, Constant}
 use Rattle.mast_cq.specs.declared.atom.Atom.{Atom}
 use Rattle.mast_cq.specs.declared.atom.Atom.TheVariants.{Class, Role, Attr}
 use Rattle.mast_cq.specs.declared.query.Cq.{Cq}
-use Rattle.mast_cq.specs.Origins.{AreFrom, AtomDrawsFrom, DrawsFrom, IsStep, KnownQuery, KeepsNames, NameBelow, NamesBelow}
+use Rattle.mast_cq.specs.Origins.{AreFrom, AtomDrawsFrom, DrawsFrom, IsStep, KnownQuery, Named}
 use Rattle.mast_cq.specs.Queries.{In, TakesTwo}
 use Rattle.mast_cq.specs.Sorts.{objects_of, values_of, arguments_of, of_all, EachHasOneSort}
 use Rattle.mast_cq.specs.Steps.{stepped}
@@ -200,26 +200,26 @@ step_known bound q r step k = record {
     of_both c (inl i) = known_list (IsBelow bound) c q.answer k.answer i
     of_both c (inr i) = known_all (IsBelow bound) c q.atoms k.atoms i
 
-replaced_named : (sizes : NameKind → ℕ) (r : Replacement) (g : Atom) → NameBelow sizes g → NameBelow sizes (replace r g)
-replaced_named sizes r (Class a x) k = k
-replaced_named sizes r (Role a x y) k = k
-replaced_named sizes r (Attr a x y) k = k
+replaced_named : (P : NameKind → ℕ → Type 0) (r : Replacement) (g : Atom) → Named P g → Named P (replace r g)
+replaced_named P r (Class a x) k = k
+replaced_named P r (Role a x y) k = k
+replaced_named P r (Attr a x y) k = k
 
-met_named : (sizes : NameKind → ℕ) (answer : List Arg) (g h : Atom) (m : Meeting) → meeting answer g h ≡ Some m → NameBelow sizes g → NameBelow sizes m.atom
-met_named sizes answer (Class a x) (Class b z) m e k = subst (λ n. NameBelow sizes n.atom) (class_made answer a b x z m e).is k
-met_named sizes answer (Role a x y) (Role b z w) m e k = subst (λ n. NameBelow sizes n.atom) (role_made answer a b x y z w m e).is k
-met_named sizes answer (Attr a x y) (Attr b z w) m e k = subst (λ n. NameBelow sizes n.atom) (attr_made answer a b x y z w m e).is k
-met_named sizes answer (Class a x) (Role b z w) m e k = absurd (no_meeting m e)
-met_named sizes answer (Class a x) (Attr b z w) m e k = absurd (no_meeting m e)
-met_named sizes answer (Role a x y) (Class b z) m e k = absurd (no_meeting m e)
-met_named sizes answer (Role a x y) (Attr b z w) m e k = absurd (no_meeting m e)
-met_named sizes answer (Attr a x y) (Class b z) m e k = absurd (no_meeting m e)
-met_named sizes answer (Attr a x y) (Role b z w) m e k = absurd (no_meeting m e)
+met_named : (P : NameKind → ℕ → Type 0) (answer : List Arg) (g h : Atom) (m : Meeting) → meeting answer g h ≡ Some m → Named P g → Named P m.atom
+met_named P answer (Class a x) (Class b z) m e k = subst (λ n. Named P n.atom) (class_made answer a b x z m e).is k
+met_named P answer (Role a x y) (Role b z w) m e k = subst (λ n. Named P n.atom) (role_made answer a b x y z w m e).is k
+met_named P answer (Attr a x y) (Attr b z w) m e k = subst (λ n. Named P n.atom) (attr_made answer a b x y z w m e).is k
+met_named P answer (Class a x) (Role b z w) m e k = absurd (no_meeting m e)
+met_named P answer (Class a x) (Attr b z w) m e k = absurd (no_meeting m e)
+met_named P answer (Role a x y) (Class b z) m e k = absurd (no_meeting m e)
+met_named P answer (Role a x y) (Attr b z w) m e k = absurd (no_meeting m e)
+met_named P answer (Attr a x y) (Class b z) m e k = absurd (no_meeting m e)
+met_named P answer (Attr a x y) (Role b z w) m e k = absurd (no_meeting m e)
 
--- a step keeps names in range
-pub step_names : (sizes : NameKind → ℕ) (q r : Cq) (step : IsStep q r) → KeepsNames sizes q r step
-step_names sizes q r step left all = subst (λ c. NamesBelow sizes c) (sym step.gives) (
-  met_named sizes q.answer step.left step.right step.by step.meets left,
-  each_map (NameBelow sizes) (NameBelow sizes) (replace step.by.replacement) (λ g k. replaced_named sizes step.by.replacement g k) step.others
-      (two_out (NameBelow sizes) (at_places q.atoms step.g step.h step.others step.two) all).2,
+-- what holds of the names of the query and of left holds of those of a step
+pub step_names : (P : NameKind → ℕ → Type 0) (q r : Cq) (step : IsStep q r) → Named P step.left → AllByRecursion (Named P) q.atoms → AllByRecursion (Named P) r.atoms
+step_names P q r step left all = subst (λ c. AllByRecursion (Named P) c.atoms) (sym step.gives) (
+  met_named P q.answer step.left step.right step.by step.meets left,
+  each_map (Named P) (Named P) (replace step.by.replacement) (λ g k. replaced_named P step.by.replacement g k) step.others
+      (two_out (Named P) (at_places q.atoms step.g step.h step.others step.two) all).2,
 )

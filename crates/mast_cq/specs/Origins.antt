@@ -1,5 +1,5 @@
 -- Where the arguments of a query's atoms come from: the arguments of a normal form and of a step come from the query.
-use Rattle.std.specs.Prelude.{◌≡◌, ℕ, ◌<◌, List, ◌++◌, Some, ◌⊎◌}
+use Rattle.std.specs.Prelude.{◌≡◌, ℕ, ◌<◌, List, ◌++◌, Some, Bool, true, ◌⊎◌}
 use Rattle.std.specs.List.{AllByRecursion}
 use Rattle.mast_terms.specs.declared.name.NameKind.{NameKind}
 use Rattle.mast_terms.specs.declared.name.NameKind.TheVariants as kinds
@@ -58,15 +58,31 @@ pub record KnownQuery (bound : ℕ) (q : Cq) : Type 0 where
   pub answer : AllByRecursion (KnownArg (IsBelow bound)) q.answer
   pub atoms : AllByRecursion (KnownAtom (IsBelow bound)) q.atoms
 
+-- P holds of the kind and the number of the atom's name
+abbrev pub Named : (NameKind → ℕ → Type 0) → Atom → Type 0
+Named P (Class a x) = P kinds.Class a.0
+Named P (Role a x y) = P kinds.Role a.0
+Named P (Attr a x y) = P kinds.Attr a.0
+
 -- the name of the atom is below the number of names of its kind
 abbrev pub NameBelow : (NameKind → ℕ) → Atom → Type 0
-NameBelow sizes (Class a x) = a.0 < sizes kinds.Class
-NameBelow sizes (Role a x y) = a.0 < sizes kinds.Role
-NameBelow sizes (Attr a x y) = a.0 < sizes kinds.Attr
+NameBelow sizes = Named (λ kind n. n < sizes kind)
 
 -- the names of the query's atoms are
 abbrev pub NamesBelow : (NameKind → ℕ) → Cq → Type 0
 NamesBelow sizes q = AllByRecursion (NameBelow sizes) q.atoms
+
+-- a name of this kind and number passes the test
+abbrev pub Passes : (NameKind → ℕ → Bool) → NameKind → ℕ → Type 0
+Passes test kind n = test kind n ≡ true
+
+-- the name of the atom passes
+abbrev pub NamePasses : (NameKind → ℕ → Bool) → Atom → Type 0
+NamePasses test = Named (Passes test)
+
+-- the names of the query's atoms do
+abbrev pub NamesPass : (NameKind → ℕ → Bool) → Cq → Type 0
+NamesPass test q = AllByRecursion (NamePasses test) q.atoms
 
 -- what a meeting of g and h makes of a variable is the variable, or an argument of the two atoms
 abbrev pub StaysWithin : Atom → Atom → Meeting → Type 0
@@ -90,6 +106,10 @@ pub record IsStep (q r : Cq) : Type 0 where
   pub meets : meeting q.answer left right ≡ Some by
   pub gives : r ≡ stepped q by others
 
--- a step keeps the names in range, where the name of left is
+-- a step keeps the names below their bounds, where the name of left is
 abbrev pub KeepsNames : (NameKind → ℕ) → (q r : Cq) → IsStep q r → Type 0
 KeepsNames sizes q r step = NameBelow sizes step.left → NamesBelow sizes q → NamesBelow sizes r
+
+-- after a step the names pass the test that they passed before, where the name of left does
+abbrev pub KeepsPassing : (NameKind → ℕ → Bool) → (q r : Cq) → IsStep q r → Type 0
+KeepsPassing test q r step = NamePasses test step.left → NamesPass test q → NamesPass test r

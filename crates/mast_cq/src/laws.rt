@@ -1,5 +1,5 @@
 //! What the normal form, unification and a closure's step mean, as laws that no code calls.
-ghost use Rattle.std.specs.Prelude.{◌≡◌, ◌<◌, ◌≤◌, ◌++◌, ℕ, length, List, ◌↔◌};
+ghost use Rattle.std.specs.Prelude.{◌≡◌, ◌<◌, ◌≤◌, ◌++◌, ℕ, length, List, Bool, ◌↔◌};
 ghost use Rattle.mast_terms.specs.declared.name.NameKind.{NameKind};
 ghost use Rattle.mast_cq.specs.declared.atom.Arg.{Arg};
 ghost use Rattle.mast_cq.specs.declared.atom.Atom.{Atom};
@@ -7,7 +7,7 @@ ghost use Rattle.mast_cq.specs.declared.query.Cq.{Cq};
 ghost use Rattle.mast_cq.specs.ListPlaces.{TwoPlaces};
 ghost use Rattle.mast_cq.specs.Meanings.{Fact, SameTuples};
 ghost use Rattle.mast_cq.specs.NormalForms.{normal_form, IsNormal, Spread};
-ghost use Rattle.mast_cq.specs.Origins.{AreFrom, ComesFrom, DrawsFrom, IsStep, KeepsNames, KnownQuery, NamesBelow, SomeAtom, VariablesStayWithin};
+ghost use Rattle.mast_cq.specs.Origins.{AreFrom, ComesFrom, DrawsFrom, IsStep, KeepsNames, KeepsPassing, KnownQuery, NamesBelow, NamesPass, SomeAtom, VariablesStayWithin};
 ghost use Rattle.mast_cq.specs.Properties.{PairsAreFacts, FactsArePairs};
 ghost use Rattle.mast_cq.specs.Queries.{In, TakesTwo};
 ghost use Rattle.mast_cq.specs.Sorts.{EachHasOneSort, all_arguments};
@@ -36,14 +36,16 @@ pub fn normal_meaning_law<X, W: Truth<X>>()
 {}
 
 /// The arguments of a normal form come from the query: each argument but `_` of an atom stands at that place of an atom
-/// of the query of that kind and name, and each atom of the query becomes one so. So known constants stay known, names
-/// stay in range, and sorts stay one.
+/// of the query of that kind and name, and each atom of the query becomes one so. So known constants stay known, and sorts
+/// stay one. Names stay below bounds, and pass any test of kind and number that the query's names pass: so they stay in a
+/// vocabulary, or auxiliary roles.
 pub fn normal_origin_law()
     ensures comes { (q : Cq) (g : Atom) → In g (normal_form q).atoms → SomeAtom (ComesFrom g) q.atoms }
     ensures becomes { (q : Cq) (h : Atom) → In h q.atoms → SomeAtom (λ g. ComesFrom g h) (normal_form q).atoms }
     ensures draws { (q : Cq) → DrawsFrom (normal_form q).atoms q.atoms }
     ensures known { (bound : ℕ) (q : Cq) → KnownQuery bound q → KnownQuery bound (normal_form q) }
     ensures names { (sizes : NameKind → ℕ) (q : Cq) → NamesBelow sizes q → NamesBelow sizes (normal_form q) }
+    ensures named { (test : NameKind → ℕ → Bool) (q : Cq) → NamesPass test q → NamesPass test (normal_form q) }
     ensures sorts { (q : Cq) → EachHasOneSort q.atoms → EachHasOneSort (normal_form q).atoms }
 {}
 
@@ -91,14 +93,16 @@ pub fn step_meaning_law<X, W: Truth<X>>()
 {}
 
 /// A closure's step has fewer atoms, and its arguments come from the query: the arguments of its atoms from those of the
-/// atoms, and of its answer list from these and the answer list. So known constants stay known, and names stay in range.
-/// Where each argument has one sort, they come from places of the same sort, and each still has one.
+/// atoms, and of its answer list from these and the answer list. So known constants stay known. Names stay below bounds,
+/// and pass any test that the names of the query and of the first atom met pass. Where each argument has one sort, they come
+/// from places of the same sort, and each still has one.
 pub fn step_origin_law()
     ensures fewer { (q r : Cq) → IsStep q r → length r.atoms < length q.atoms }
     ensures arguments { (q r : Cq) → IsStep q r → AreFrom (all_arguments r.atoms) (all_arguments q.atoms) }
     ensures answer { (q r : Cq) → IsStep q r → AreFrom r.answer (q.answer ++ all_arguments q.atoms) }
     ensures known { (bound : ℕ) (q r : Cq) → IsStep q r → KnownQuery bound q → KnownQuery bound r }
     ensures names { (sizes : NameKind → ℕ) (q r : Cq) (step : IsStep q r) → KeepsNames sizes q r step }
+    ensures named { (test : NameKind → ℕ → Bool) (q r : Cq) (step : IsStep q r) → KeepsPassing test q r step }
     ensures draws { (q r : Cq) → IsStep q r → EachHasOneSort q.atoms → DrawsFrom r.atoms q.atoms }
     ensures sorts { (q r : Cq) → IsStep q r → EachHasOneSort q.atoms → EachHasOneSort r.atoms }
 {}
