@@ -19,6 +19,7 @@ pub mod StepLemmas
 pub mod MadeLemmas
 pub mod OriginLemmas
 pub mod MeetingOriginLemmas
+pub mod MergeOriginLemmas
 pub mod StepOriginLemmas
 pub mod HashLemmas
 pub mod TotalOrderLemmas

@@ -176,8 +176,23 @@ comes_values (Attr a x y) (Class b z) p = absurd p
 comes_values (Attr a x y) (Role b z w) p = absurd p
 comes_values (Attr a x y) (Attr b z w) p = single_from y w p.2
 
+comes_arguments : (g h : Atom) → ComesFrom g h → AreFrom (arguments_of g) (arguments_of h)
+comes_arguments (Class a x) (Class b z) p = single_from x z p.1
+comes_arguments (Class a x) (Role b z w) p = absurd p
+comes_arguments (Class a x) (Attr b z w) p = absurd p
+comes_arguments (Role a x y) (Class b z) p = absurd p
+comes_arguments (Role a x y) (Role b z w) p = pair_from x y z w p.1 p.2
+comes_arguments (Role a x y) (Attr b z w) p = absurd p
+comes_arguments (Attr a x y) (Class b z) p = absurd p
+comes_arguments (Attr a x y) (Role b z w) p = absurd p
+comes_arguments (Attr a x y) (Attr b z w) p = pair_from x y z w p.1 p.2
+
 among_all : (f : Atom → List Arg) (g h : Atom) (hs : List Atom) → In h hs → AreFrom (f g) (f h) → AreFrom (f g) (of_all f hs)
 among_all f g h hs i k x j = elim (k x j) [ inl b ↦ inl b | inr m ↦ inr (of_all_in f x h hs i m) ]
+
+-- the arguments of a normal form come from the query
+pub normal_arguments : (q : Cq) → AreFrom (of_all arguments_of (normal_form q).atoms) (of_all arguments_of q.atoms)
+normal_arguments q = each_from arguments_of (of_all arguments_of q.atoms) (normal_form q).atoms (λ g i. let w = normal_comes q g i in among_all arguments_of g w.atom q.atoms w.among (comes_arguments g w.atom w.is))
 
 -- the arguments of a normal form come from places of the query of the same sort
 pub normal_draws : (q : Cq) → DrawsFrom (normal_form q).atoms q.atoms

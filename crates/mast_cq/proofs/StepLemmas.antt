@@ -4,7 +4,7 @@ use Rattle.mast_cq.specs.declared.atom.Atom.{Atom}
 use Rattle.mast_cq.specs.declared.query.Cq.{Cq}
 use Rattle.mast_cq.specs.Meanings.{Fact, Match, MetBy, HasTuple}
 use Rattle.mast_cq.specs.Queries.{TakesTwo}
-use Rattle.mast_cq.specs.Steps.{stepped, Implies, StepsAreSound, StepsAreComplete, StepsFollow, Holding}
+use Rattle.mast_cq.specs.Steps.{merged, Implies, StepsAreSound, StepsAreComplete, StepsFollow, Holding}
 use Rattle.mast_cq.specs.Unification.{replace, Meeting, meeting}
 use Rattle.mast_cq.specs.UnifierMeanings.{before, IsBelow, Parts, Respects}
 use Rattle.mast_cq.proofs.JoinLemmas.{join}
@@ -15,10 +15,10 @@ use Rattle.mast_cq.proofs.SameTuplesLemmas.{normal_form_into, normal_form_out}
 use Rattle.mast_cq.proofs.TakesLemmas.{two_each, at_places}
 
 module _ {X : Type 0} (constant : ℕ → X) (P : Fact X → Type 0) where
-  -- what the query has after a meeting of two atoms that imply two of its own, it had before, under the assignment before the replacement
-  pub step_before : (q : Cq) (g h left right : Atom) (others : List Atom) (m : Meeting) (tuple : List X) → TakesTwo q.atoms g h others → meeting q.answer left right ≡ Some m
-      → Implies constant P left g → Implies constant P right h → HasTuple constant P (stepped q m others) tuple → HasTuple constant P q tuple
-  step_before q g h left right others m tuple two e a b w = record {
+  -- what the query has after a merge of two atoms that imply two of its own, it had before, under the assignment before the replacement
+  pub merge_before : (q : Cq) (g h left right : Atom) (others : List Atom) (m : Meeting) (tuple : List X) → TakesTwo q.atoms g h others → meeting q.answer left right ≡ Some m
+      → Implies constant P left g → Implies constant P right h → HasTuple constant P (merged q m others) tuple → HasTuple constant P q tuple
+  merge_before q g h left right others m tuple two e a b w = record {
     under = before constant w.under m.replacement;
     each = two_each (MetBy constant P (before constant w.under m.replacement)) two (a (before constant w.under m.replacement) (back left (record { fact = first.fact; matches = both.0; holds = first.holds })))
         (b (before constant w.under m.replacement) (back right (record { fact = first.fact; matches = both.1; holds = first.holds })))
@@ -38,10 +38,10 @@ module _ {X : Type 0} (constant : ℕ → X) (P : Fact X → Type 0) where
       back : (x : Atom) → MetBy constant P w.under (replace m.replacement x) → MetBy constant P (before constant w.under m.replacement) x
       back x v = record { fact = v.fact; matches = match_before constant w.under m.replacement p.proper x v.fact v.matches; holds = v.holds }
 
-  -- a query has the tuple after a meeting whose replacement the assignment respects and whose atom it makes a fact that holds
-  pub step_after : (s : ℕ → X) (q : Cq) (m : Meeting) (others : List Atom) (tuple : List X) → Respects constant s m.replacement → MetBy constant P s m.atom
-      → Holding constant P s q others tuple → HasTuple constant P (stepped q m others) tuple
-  step_after s q m others tuple r a h = record {
+  -- a query has the tuple after a merge whose replacement the assignment respects and whose atom it makes a fact that holds
+  pub merge_after : (s : ℕ → X) (q : Cq) (m : Meeting) (others : List Atom) (tuple : List X) → Respects constant s m.replacement → MetBy constant P s m.atom
+      → Holding constant P s q others tuple → HasTuple constant P (merged q m others) tuple
+  merge_after s q m others tuple r a h = record {
     under = s;
     each = (
       a,
@@ -51,16 +51,16 @@ module _ {X : Type 0} (constant : ℕ → X) (P : Fact X → Type 0) where
     answers = respects_gives constant s m.replacement r q.answer tuple h.answers;
   }
 
-  -- a step is sound, with the normal form
+  -- a step is sound
   pub step_sound : StepsAreSound constant P
   step_sound q g h left right others m tuple two e a b w =
-      step_before q g h left right others m tuple (at_places q.atoms g h others two) e a b (normal_form_out constant P (stepped q m others) tuple w)
+      merge_before q g h left right others m tuple (at_places q.atoms g h others two) e a b (normal_form_out constant P (merged q m others) tuple w)
 
-  -- what holds under an assignment follows by a step, with the normal form
+  -- what holds under an assignment follows by a step
   pub step_follows : StepsFollow constant P
-  step_follows s q m others tuple r a h = normal_form_into constant P (stepped q m others) tuple (step_after s q m others tuple r a h)
+  step_follows s q m others tuple r a h = normal_form_into constant P (merged q m others) tuple (merge_after s q m others tuple r a h)
 
-  -- a step is complete, with the normal form
+  -- a step is complete
   pub step_complete : StepsAreComplete constant P
   step_complete bound s q left right others f tuple apart kl kr both holds h =
       let j = join constant (IsBelow bound) apart q.answer s left right f kl kr both.first both.second in

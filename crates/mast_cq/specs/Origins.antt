@@ -1,4 +1,4 @@
--- Where the arguments of a query's atoms come from: the arguments of a normal form and of a step come from the query.
+-- Where the arguments of a query's atoms come from: the arguments of a normal form, a merge and a step come from the query.
 use Rattle.std.specs.Prelude.{◌≡◌, ℕ, ◌<◌, List, ◌++◌, Some, Bool, true, ◌⊎◌}
 use Rattle.std.specs.List.{AllByRecursion}
 use Rattle.mast_terms.specs.declared.name.NameKind.{NameKind}
@@ -9,9 +9,10 @@ use Rattle.mast_cq.specs.declared.atom.Atom.{Atom}
 use Rattle.mast_cq.specs.declared.atom.Atom.TheVariants.{Class, Role, Attr}
 use Rattle.mast_cq.specs.declared.query.Cq.{Cq}
 use Rattle.mast_cq.specs.ListPlaces.{TwoPlaces}
+use Rattle.mast_cq.specs.NormalForms.{normal_form}
 use Rattle.mast_cq.specs.Queries.{In}
 use Rattle.mast_cq.specs.Sorts.{objects_of, values_of, arguments_of, of_all}
-use Rattle.mast_cq.specs.Steps.{stepped}
+use Rattle.mast_cq.specs.Steps.{merged}
 use Rattle.mast_cq.specs.Unification.{Meeting, meeting}
 use Rattle.mast_cq.specs.UnifierMeanings.{IsBelow, KnownArg, KnownAtom}
 
@@ -92,8 +93,8 @@ StaysWithin g h m = (n : ℕ) → (m.replacement n ≡ Var n) ⊎ In (m.replacem
 abbrev pub VariablesStayWithin : List Arg → Atom → Atom → Type 0
 VariablesStayWithin answer g h = (m : Meeting) → meeting answer g h ≡ Some m → StaysWithin g h m
 
--- the second query is the first after a step: g and h stand at two places, left and right draw their arguments from them and have a meeting
-pub record IsStep (q r : Cq) : Type 0 where
+-- the second query merges two atoms of the first: g and h stand at two places, left and right draw their arguments from them and have a meeting
+pub record IsMerge (q r : Cq) : Type 0 where
   pub g : Atom
   pub h : Atom
   pub left : Atom
@@ -104,12 +105,18 @@ pub record IsStep (q r : Cq) : Type 0 where
   pub left_draws : AtomDrawsFrom left g
   pub right_draws : AtomDrawsFrom right h
   pub meets : meeting q.answer left right ≡ Some by
-  pub gives : r ≡ stepped q by others
+  pub gives : r ≡ merged q by others
 
--- a step keeps the names below their bounds, where the name of left is
-abbrev pub KeepsNames : (NameKind → ℕ) → (q r : Cq) → IsStep q r → Type 0
-KeepsNames sizes q r step = NameBelow sizes step.left → NamesBelow sizes q → NamesBelow sizes r
+-- the second query is the first after a step of a closure: the normal form of a merge
+pub record IsStep (q r : Cq) : Type 0 where
+  pub before : Cq
+  pub merge : IsMerge q before
+  pub gives : r ≡ normal_form before
 
--- after a step the names pass the test that they passed before, where the name of left does
-abbrev pub KeepsPassing : (NameKind → ℕ → Bool) → (q r : Cq) → IsStep q r → Type 0
-KeepsPassing test q r step = NamePasses test step.left → NamesPass test q → NamesPass test r
+-- the names of the second query are below their bounds, where the name of the atom and those of the first query are
+abbrev pub KeepsNames : (NameKind → ℕ) → (left : Atom) (q r : Cq) → Type 0
+KeepsNames sizes left q r = NameBelow sizes left → NamesBelow sizes q → NamesBelow sizes r
+
+-- the names of the second query pass the test, where the name of the atom and those of the first query do
+abbrev pub KeepsPassing : (NameKind → ℕ → Bool) → (left : Atom) (q r : Cq) → Type 0
+KeepsPassing test left q r = NamePasses test left → NamesPass test q → NamesPass test r

@@ -7,7 +7,7 @@ ghost use Rattle.mast_cq.specs.declared.query.Cq.{Cq};
 ghost use Rattle.mast_cq.specs.ListPlaces.{TwoPlaces};
 ghost use Rattle.mast_cq.specs.Meanings.{Fact, SameTuples};
 ghost use Rattle.mast_cq.specs.NormalForms.{normal_form, IsNormal, Spread};
-ghost use Rattle.mast_cq.specs.Origins.{AreFrom, ComesFrom, DrawsFrom, IsStep, KeepsNames, KeepsPassing, KnownQuery, NamesBelow, NamesPass, SomeAtom, VariablesStayWithin};
+ghost use Rattle.mast_cq.specs.Origins.{AreFrom, ComesFrom, DrawsFrom, IsMerge, IsStep, KeepsNames, KeepsPassing, KnownQuery, NamesBelow, NamesPass, SomeAtom, VariablesStayWithin};
 ghost use Rattle.mast_cq.specs.Properties.{PairsAreFacts, FactsArePairs};
 ghost use Rattle.mast_cq.specs.Queries.{In, TakesTwo};
 ghost use Rattle.mast_cq.specs.Sorts.{EachHasOneSort, all_arguments};
@@ -83,26 +83,39 @@ pub fn unify_none_law<X>()
     ensures { (constant : ℕ → X) → NoneIsApart constant }
 {}
 
-/// A closure's step keeps the meaning, over the query with the met atom in front of the others, in normal form. It is
-/// sound for two atoms that imply those of the query, as the members below them do. It is complete for two that one fact
-/// is, under the premise of `unify_complete_law` on constants, and any meeting that the assignment respects may follow.
+/// A closure's step keeps the meaning. It is the normal form of a merge, which is the query with the met atom in front of
+/// the others. It is sound for two atoms that imply those of the query, as the members below them do. It is complete for two
+/// that one fact is, under the premise of `unify_complete_law` on constants, and any meeting that the assignment respects may
+/// follow.
 pub fn step_meaning_law<X, W: Truth<X>>()
     ensures sound { (constant : ℕ → X) (w : W) → StepsAreSound constant (W.holds w) }
     ensures complete { (constant : ℕ → X) (w : W) → StepsAreComplete constant (W.holds w) }
     ensures follow { (constant : ℕ → X) (w : W) → StepsFollow constant (W.holds w) }
 {}
 
-/// A closure's step has fewer atoms, and its arguments come from the query: the arguments of its atoms from those of the
-/// atoms, and of its answer list from these and the answer list. So known constants stay known. Names stay below bounds,
-/// and pass any test that the names of the query and of the first atom met pass. Where each argument has one sort, they come
-/// from places of the same sort, and each still has one.
+/// A merge of two atoms, before the normal form, has fewer atoms, and its arguments come from the query: the arguments of its
+/// atoms from those of the atoms, and of its answer list from these and the answer list. So known constants stay known. Names
+/// stay below bounds, and pass any test that the names of the query and of the first atom met pass. Where each argument has
+/// one sort, they come from places of the same sort, and each still has one.
+pub fn merge_origin_law()
+    ensures fewer { (q r : Cq) → IsMerge q r → length r.atoms < length q.atoms }
+    ensures arguments { (q r : Cq) → IsMerge q r → AreFrom (all_arguments r.atoms) (all_arguments q.atoms) }
+    ensures answer { (q r : Cq) → IsMerge q r → AreFrom r.answer (q.answer ++ all_arguments q.atoms) }
+    ensures known { (bound : ℕ) (q r : Cq) → IsMerge q r → KnownQuery bound q → KnownQuery bound r }
+    ensures names { (sizes : NameKind → ℕ) (q r : Cq) (merge : IsMerge q r) → KeepsNames sizes merge.left q r }
+    ensures named { (test : NameKind → ℕ → Bool) (q r : Cq) (merge : IsMerge q r) → KeepsPassing test merge.left q r }
+    ensures draws { (q r : Cq) → IsMerge q r → EachHasOneSort q.atoms → DrawsFrom r.atoms q.atoms }
+    ensures sorts { (q r : Cq) → IsMerge q r → EachHasOneSort q.atoms → EachHasOneSort r.atoms }
+{}
+
+/// A closure's step, the normal form of a merge, has fewer atoms too, and its arguments come from the query in the same way.
 pub fn step_origin_law()
     ensures fewer { (q r : Cq) → IsStep q r → length r.atoms < length q.atoms }
     ensures arguments { (q r : Cq) → IsStep q r → AreFrom (all_arguments r.atoms) (all_arguments q.atoms) }
     ensures answer { (q r : Cq) → IsStep q r → AreFrom r.answer (q.answer ++ all_arguments q.atoms) }
     ensures known { (bound : ℕ) (q r : Cq) → IsStep q r → KnownQuery bound q → KnownQuery bound r }
-    ensures names { (sizes : NameKind → ℕ) (q r : Cq) (step : IsStep q r) → KeepsNames sizes q r step }
-    ensures named { (test : NameKind → ℕ → Bool) (q r : Cq) (step : IsStep q r) → KeepsPassing test q r step }
+    ensures names { (sizes : NameKind → ℕ) (q r : Cq) (step : IsStep q r) → KeepsNames sizes step.merge.left q r }
+    ensures named { (test : NameKind → ℕ → Bool) (q r : Cq) (step : IsStep q r) → KeepsPassing test step.merge.left q r }
     ensures draws { (q r : Cq) → IsStep q r → EachHasOneSort q.atoms → DrawsFrom r.atoms q.atoms }
     ensures sorts { (q r : Cq) → IsStep q r → EachHasOneSort q.atoms → EachHasOneSort r.atoms }
 {}
