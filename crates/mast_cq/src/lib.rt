@@ -20,4 +20,4 @@ pub use laws::{
 pub use normal_form::norm;
 pub use query::{Cq, CqRef, Ucq, query_laws, view_laws};
 pub use sorts::{SortClash, sort_breach, sort_breach_law};
-pub use unifier::{Binding, Bindings, Met, meet, unify};
+pub use unifier::{Binding, Bindings, Met, bindings_laws, meet, met_laws, unify};

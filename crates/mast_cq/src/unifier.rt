@@ -1,11 +1,13 @@
 //! What two atoms become where they meet, and the query in which two of its atoms are unified.
 ghost use Rattle.std.specs.Prelude.{◌≡◌, ◌≢◌, ◌<◌, ℕ, length, map, IfOk};
+ghost use Rattle.mast_terms.specs.Orders.{TestsEquality};
 ghost use Rattle.mast_cq.specs.Queries.{viewed, has_var as has_var_of};
 ghost use Rattle.mast_cq.specs.Unification.{wins as wins_of, unify_args as unify_args_of, replace_arg as replace_arg_of, replace as replace_of, fuller as fuller_of, meeting, meeting_of_one, unified};
 ghost use Rattle.mast_cq.specs.Meetings.{binding_of, replacement_of, meeting_of};
 ghost use Rattle.mast_cq.specs.inside.PairMeetings.{bindings_of, both_pairs, unified_of, pairs_meet, PairsMeet};
 ghost use Rattle.mast_cq.specs.declared.atom.Atom.TheVariants as atoms;
 
+use crate::atom::{arg_laws, atom_laws};
 use crate::{Arg, Atom, Cq, CqRef};
 use mast_terms::{List, Name, NoMemory};
 use std::alloc::Global;
@@ -39,6 +41,22 @@ pub struct Met {
     pub replacement: Bindings,
     /// The atom.
     pub atom: Atom,
+}
+
+/// `==` holds exactly of equal bindings, and of two that are written with equal ones.
+pub fn bindings_laws()
+    ensures binding { TestsEquality ⟦<Binding as PartialEq>⟧.eq }
+    ensures bindings { TestsEquality ⟦<Bindings as PartialEq>⟧.eq }
+{
+    arg_laws();
+}
+
+/// `==` of meetings holds exactly where they are written with equal bindings and have the same atom.
+pub fn met_laws()
+    ensures { TestsEquality ⟦<Met as PartialEq>⟧.eq }
+{
+    bindings_laws();
+    atom_laws();
 }
 
 // What two pairs of arguments become where they meet.
