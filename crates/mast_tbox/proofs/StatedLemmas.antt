@@ -11,7 +11,7 @@ use Rattle.mast_tbox.specs.declared.axiom.Inclusion.TheVariants.{Class as IClass
 use Rattle.mast_tbox.specs.Expressions.{inverse}
 use Rattle.mast_tbox.specs.Inclusions.{first_auxiliary, auxiliary, normal_of, normal, States, Leads}
 use Rattle.mast_tbox.specs.Lists.{itself, onward}
-use Rattle.mast_tbox.specs.Names.{RoleInRange, PropInRange, AreInRange}
+use Rattle.mast_tbox.specs.Names.{RoleNamed, IsStatable, PropInRange, AreInRange}
 use Rattle.mast_tbox.specs.Properties.{IsBelow, AreEquivalent}
 use Rattle.mast_tbox.specs.Restrictions.{IsLike, Specialises, IsSpecialised}
 use Rattle.mast_tbox.proofs.MemberLemmas.{front, none, first_or, only_one}
@@ -19,11 +19,11 @@ use Rattle.mast_tbox.proofs.NumberLemmas.{source_of, normal_has}
 use Rattle.mast_tbox.proofs.WorkLemmas.{reaches_weaker}
 
 -- an inclusion between properties with names in range is one of the normal ones that stand for a stated inclusion only if it is that
-role_of : (r s : RoleExpr) (i : Inclusion) → RoleInRange r → Contains (normal_of i) (IRole r s) → i ≡ IRole r s
+role_of : (r s : RoleExpr) (i : Inclusion) → RoleNamed IsStatable r → Contains (normal_of i) (IRole r s) → i ≡ IRole r s
 role_of r s (IClass b a) n c = absurd (let e = only_one (IClass b a) (IRole r s) c in cc)
 role_of r s (Exists b t None k) n c = absurd (let e = only_one (Exists b t None k) (IRole r s) c in cc)
 role_of r s (Exists b t (Some a) k) n c = elim (first_or (IRole (Direct (auxiliary k)) t) (IClass (BSome (Inverse (auxiliary k))) a ∷ Exists b (Direct (auxiliary k)) None k ∷ []) (IRole r s) c) [
-  | inl e ↦ absurd (let f : r ≡ Direct (auxiliary k) = cc in let l : first_auxiliary + k < first_auxiliary = subst RoleInRange f n in omega arith)
+  | inl e ↦ absurd (let f : r ≡ Direct (auxiliary k) = cc in let l : first_auxiliary + k < first_auxiliary = subst (RoleNamed IsStatable) f n in omega arith)
   | inr d ↦ elim (first_or (IClass (BSome (Inverse (auxiliary k))) a) (Exists b (Direct (auxiliary k)) None k ∷ []) (IRole r s) d) [
     | inl e ↦ cc
     | inr f ↦ absurd (let e = only_one (Exists b (Direct (auxiliary k)) None k) (IRole r s) f in cc)
@@ -125,7 +125,7 @@ module _ (tbox : List Inclusion) where
     specialised_has (IClass b a) p n c s = absurd s
     specialised_has (Exists b r None k) p n c s = absurd s
     specialised_has (Exists b r (Some a) k) p n c s =
-        let m : RoleInRange r = (range (Exists b r (Some a) k) c).1.0 in (
+        let m : RoleNamed IsStatable r = (range (Exists b r (Some a) k) c).1.0 in (
           IRole (Direct (auxiliary k)) r,
           (
             normal_has tbox (Exists b r (Some a) k) (IRole (Direct (auxiliary k)) r) c (front (IRole (Direct (auxiliary k)) r) (IClass (BSome (Inverse (auxiliary k))) a ∷ Exists b (Direct (auxiliary k)) None k ∷ [])),
@@ -145,7 +145,7 @@ module _ (tbox : List Inclusion) where
     specialised_of (IClass b a) j p n c g s = absurd (subst (λ w. Specialises (normal tbox) w p) (only_one (IClass b a) j g) s)
     specialised_of (Exists b r None k) j p n c g s = absurd (subst (λ w. Specialises (normal tbox) w p) (only_one (Exists b r None k) j g) s)
     specialised_of (Exists b r (Some a) k) j p n c g s =
-        let m : RoleInRange r = (range (Exists b r (Some a) k) c).1.0 in
+        let m : RoleNamed IsStatable r = (range (Exists b r (Some a) k) c).1.0 in
         elim (first_or (IRole (Direct (auxiliary k)) r) (IClass (BSome (Inverse (auxiliary k))) a ∷ Exists b (Direct (auxiliary k)) None k ∷ []) j g) [
           | inl e ↦ (Exists b r (Some a) k, (c, (like_agrees p (PRole r) n m).1 (subst (λ w. Specialises (normal tbox) w p) e s).1))
           | inr d ↦ elim (first_or (IClass (BSome (Inverse (auxiliary k))) a) (Exists b (Direct (auxiliary k)) None k ∷ []) j d) [

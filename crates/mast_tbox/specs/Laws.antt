@@ -1,9 +1,10 @@
 -- The words of the laws: of relations, of sets of atoms, and of what is decided, finite or one.
 use Rattle.std.specs.Prelude.{◌≡◌, ℕ, List, [], ◌∷◌, ◌++◌, Bool, true, Option, None, Contains, ◌⊎◌, ◌↔◌, length}
 use Rattle.mast_terms.specs.declared.name.Name.{Name}
+use Rattle.mast_terms.specs.declared.name.NameKind.{NameKind}
 use Rattle.mast_cq.specs.declared.atom.Atom.{Atom}
 use Rattle.mast_cq.specs.NormalForms.{Occurs, Twice}
-use Rattle.mast_cq.specs.Origins.{AtomDrawsFrom, NameBelow}
+use Rattle.mast_cq.specs.Origins.{AtomDrawsFrom, NameBelow, NamePasses, Passes}
 use Rattle.mast_cq.specs.Sorts.{EachHasOneSort}
 use Rattle.mast_tbox.specs.declared.expression.Basic.{Basic}
 use Rattle.mast_tbox.specs.declared.expression.Prop.{Prop}
@@ -16,7 +17,7 @@ use Rattle.mast_tbox.specs.Arguments.{HaveSameArguments}
 use Rattle.mast_tbox.specs.Closure.{AtomStep, Down}
 use Rattle.mast_tbox.specs.Inclusions.{normal}
 use Rattle.mast_tbox.specs.Lists.{items}
-use Rattle.mast_tbox.specs.Names.{AtomInRange, PropInRange, name_bounds}
+use Rattle.mast_tbox.specs.Names.{AreNamed, AuxiliariesPass, AtomInRange, PropInRange, name_bounds}
 use Rattle.mast_tbox.specs.Numbers.{number_of}
 use Rattle.mast_tbox.specs.Properties.{IsBelow, AreEquivalent}
 use Rattle.mast_tbox.specs.Restrictions.{IsSpecialised, IsRestrictionBreach}
@@ -103,6 +104,14 @@ KeepsRange tbox = (g h : Atom) → AtomInRange tbox g → Down (normal tbox) g h
 -- atoms with names in range, or auxiliary roles, have names below these bounds
 abbrev pub RangeIsBounded : List (Lined Inclusion) → Type 0
 RangeIsBounded lines = (g : Atom) → AtomInRange (items lines) g → NameBelow (name_bounds (length lines)) g
+
+-- where the names of the inclusions and of an atom pass a test by kind and number, those of the members of its Down do
+abbrev pub KeepsPassing : List Inclusion → Type 0
+KeepsPassing tbox = (test : NameKind → ℕ → Bool) (g h : Atom) → AreNamed (Passes test) tbox → NamePasses test g → Down tbox g h → NamePasses test h
+
+-- the names of the normal inclusions pass a test that those of the inclusions and the auxiliary roles of qualified ones do
+abbrev pub NormalPasses : List Inclusion → Type 0
+NormalPasses tbox = (test : NameKind → ℕ → Bool) → AreNamed (Passes test) tbox → AuxiliariesPass test tbox → AreNamed (Passes test) (normal tbox)
 
 -- for names in range, a property is below another by the stated inclusions where it is by the normal ones
 abbrev pub BelowAgrees : List Inclusion → Type 0

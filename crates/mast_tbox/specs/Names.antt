@@ -1,5 +1,5 @@
 -- Names in range: those that documents may use, and the auxiliary roles of a TBox.
-use Rattle.std.specs.Prelude.{◌≡◌, ℕ, ◌+◌, ◌<◌, List, Option, Some, None, Contains, ◌⊎◌}
+use Rattle.std.specs.Prelude.{◌≡◌, ℕ, ◌+◌, ◌<◌, List, Option, Some, None, Bool, true, Contains, ◌⊎◌}
 use Rattle.mast_terms.specs.declared.name.Name.{Name}
 use Rattle.mast_terms.specs.declared.name.NameKind.{NameKind}
 use Rattle.mast_terms.specs.declared.name.NameKind.TheVariants as kinds
@@ -15,43 +15,55 @@ use Rattle.mast_tbox.specs.declared.axiom.Inclusion.{Inclusion}
 use Rattle.mast_tbox.specs.declared.axiom.Inclusion.TheVariants.{Class as IClass, Exists, HasValue, Role as IRole, Attr as IAttr, Range}
 use Rattle.mast_tbox.specs.Inclusions.{first_auxiliary, auxiliary}
 
+-- P holds of the kind and the number of the expression's name
+abbrev pub RoleNamed : (NameKind → ℕ → Type 0) → RoleExpr → Type 0
+RoleNamed P (Direct p) = P kinds.Role p.0
+RoleNamed P (Inverse p) = P kinds.Role p.0
+
+-- it does of the property's name
+abbrev pub PropNamed : (NameKind → ℕ → Type 0) → Prop → Type 0
+PropNamed P (PRole r) = RoleNamed P r
+PropNamed P (PAttr u) = P kinds.Attr u.0
+
+-- it does of the basic concept's name
+abbrev pub BasicNamed : (NameKind → ℕ → Type 0) → Basic → Type 0
+BasicNamed P (BClass a) = P kinds.Class a.0
+BasicNamed P (BSome r) = RoleNamed P r
+BasicNamed P (Subjects u) = P kinds.Attr u.0
+
+-- it does of the name of the class that an end is in, if there is one
+abbrev pub EndNamed : (NameKind → ℕ → Type 0) → Option Name → Type 0
+EndNamed P None = Unit {0}
+EndNamed P (Some a) = P kinds.Class a.0
+
+-- it does of the names of the inclusion
+abbrev pub InclusionNamed : (NameKind → ℕ → Type 0) → Inclusion → Type 0
+InclusionNamed P (IClass b a) = BasicNamed P b × P kinds.Class a.0
+InclusionNamed P (Exists b r end k) = BasicNamed P b × (RoleNamed P r × EndNamed P end)
+InclusionNamed P (HasValue b u k) = BasicNamed P b × P kinds.Attr u.0
+InclusionNamed P (IRole r s) = RoleNamed P r × RoleNamed P s
+InclusionNamed P (IAttr u v) = P kinds.Attr u.0 × P kinds.Attr v.0
+InclusionNamed P (Range u kind) = P kinds.Attr u.0
+
+-- it does of the names of all inclusions
+abbrev pub AreNamed : (NameKind → ℕ → Type 0) → List Inclusion → Type 0
+AreNamed P tbox = (i : Inclusion) → Contains tbox i → InclusionNamed P i
+
+-- the number is that of a name that documents may use, of any kind
+abbrev pub IsStatable : NameKind → ℕ → Type 0
+IsStatable kind n = n < first_auxiliary
+
 -- the name is one that documents may use
 abbrev pub InRange : Name → Type 0
 InRange n = n.0 < first_auxiliary
 
--- the names of an expression are in range
-abbrev pub RoleInRange : RoleExpr → Type 0
-RoleInRange (Direct p) = InRange p
-RoleInRange (Inverse p) = InRange p
-
--- the name of a property is in range
+-- the name of the property is
 abbrev pub PropInRange : Prop → Type 0
-PropInRange (PRole r) = RoleInRange r
-PropInRange (PAttr u) = InRange u
+PropInRange = PropNamed IsStatable
 
--- the name of a basic concept is in range
-abbrev pub BasicInRange : Basic → Type 0
-BasicInRange (BClass a) = InRange a
-BasicInRange (BSome r) = RoleInRange r
-BasicInRange (Subjects u) = InRange u
-
--- the class that an end is in, if there is one, is in range
-abbrev pub EndInRange : Option Name → Type 0
-EndInRange None = Unit {0}
-EndInRange (Some a) = InRange a
-
--- the names of an inclusion are in range
-abbrev pub InclusionInRange : Inclusion → Type 0
-InclusionInRange (IClass b a) = BasicInRange b × InRange a
-InclusionInRange (Exists b r end k) = BasicInRange b × (RoleInRange r × EndInRange end)
-InclusionInRange (HasValue b u k) = BasicInRange b × InRange u
-InclusionInRange (IRole r s) = RoleInRange r × RoleInRange s
-InclusionInRange (IAttr u v) = InRange u × InRange v
-InclusionInRange (Range u kind) = InRange u
-
--- the names of all inclusions are in range
+-- the names of all inclusions are
 abbrev pub AreInRange : List Inclusion → Type 0
-AreInRange tbox = (i : Inclusion) → Contains tbox i → InclusionInRange i
+AreInRange = AreNamed IsStatable
 
 -- the role is the auxiliary one of a qualified inclusion of the TBox
 pub record IsAuxiliary (tbox : List Inclusion) (p : Name) : Type 0 where
@@ -61,6 +73,10 @@ pub record IsAuxiliary (tbox : List Inclusion) (p : Name) : Type 0 where
   pub number : ℕ
   pub stands : Contains tbox (Exists sub role (Some end) number)
   pub is : p ≡ auxiliary number
+
+-- the auxiliary roles of the TBox pass the test
+abbrev pub AuxiliariesPass : (NameKind → ℕ → Bool) → List Inclusion → Type 0
+AuxiliariesPass test tbox = (p : Name) → IsAuxiliary tbox p → test kinds.Role p.0 ≡ true
 
 -- the atom's name is in range, or is an auxiliary role of the TBox
 abbrev pub AtomInRange : List Inclusion → Atom → Type 0

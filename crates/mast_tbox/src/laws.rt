@@ -4,7 +4,7 @@ ghost use Rattle.mast_cq.specs.declared.atom.Atom.{Atom};
 ghost use Rattle.mast_tbox.specs.Closure.{AtomStep, Down};
 ghost use Rattle.mast_tbox.specs.Expressions.{inverse};
 ghost use Rattle.mast_tbox.specs.Inclusions.{normal, directly_below, IsDirectlyBelow};
-ghost use Rattle.mast_tbox.specs.Laws.{Decided, IsDecided, IsReflexive, IsTransitive, IsSymmetric, IsKeptBy, IsFinite, NumbersDiffer, HasNoEnd, IsClosed, IsLeast, KeepsArguments, DrawsArguments, KeepsVariables, KeepsTwice, KeepsSorts, KeepsRange, RangeIsBounded, BelowAgrees, EquivalentAgrees, SpecialisedAgrees, BreachLaw};
+ghost use Rattle.mast_tbox.specs.Laws.{Decided, IsDecided, IsReflexive, IsTransitive, IsSymmetric, IsKeptBy, IsFinite, NumbersDiffer, HasNoEnd, IsClosed, IsLeast, KeepsArguments, DrawsArguments, KeepsVariables, KeepsTwice, KeepsSorts, KeepsRange, KeepsPassing, NormalPasses, RangeIsBounded, BelowAgrees, EquivalentAgrees, SpecialisedAgrees, BreachLaw};
 ghost use Rattle.mast_tbox.specs.Lists.{Reaches, items};
 ghost use Rattle.mast_tbox.specs.Names.{AreInRange};
 ghost use Rattle.mast_tbox.specs.Numbers.{IsNumbered};
@@ -40,8 +40,9 @@ pub fn down_law()
 {}
 
 /// What `Down` keeps of an atom: its arguments, but for `_`, each with its sort; the variables that occur in it and
-/// that stand in both its places; that each argument of a query has one sort; and names in
-/// range, which are below bounds that count the auxiliary roles.
+/// that stand in both its places; that each argument of a query has one sort; and names in range, which are below bounds
+/// that count the auxiliary roles. The names of its members pass any test of kind and number that the names of the atom and
+/// of the inclusions pass; those of the normal inclusions do where those of the stated ones and their auxiliary roles do.
 pub fn member_law()
     ensures arguments { (tbox : List Inclusion) → KeepsArguments tbox }
     ensures draws { (tbox : List Inclusion) → DrawsArguments tbox }
@@ -49,6 +50,8 @@ pub fn member_law()
     ensures twice { (tbox : List Inclusion) → KeepsTwice tbox }
     ensures sorts { (tbox : List Inclusion) → KeepsSorts tbox }
     ensures range { (tbox : List Inclusion) → AreInRange tbox → KeepsRange tbox }
+    ensures named { (tbox : List Inclusion) → KeepsPassing tbox }
+    ensures normal { (tbox : List Inclusion) → NormalPasses tbox }
     ensures bounds { (lines : List (Lined Inclusion)) → IsNumbered lines → RangeIsBounded lines }
 {}
 
