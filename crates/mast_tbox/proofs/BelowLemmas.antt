@@ -9,7 +9,8 @@ use Rattle.mast_tbox.specs.declared.expression.Prop.TheVariants.{Role as PRole, 
 use Rattle.mast_tbox.specs.declared.axiom.Inclusion.{Inclusion}
 use Rattle.mast_tbox.specs.declared.axiom.Inclusion.TheVariants.{Class as IClass, Exists, HasValue, Role as IRole, Attr as IAttr, Range}
 use Rattle.mast_tbox.specs.Expressions.{inverse_role, inverse, subjects, same_basic, same_prop}
-use Rattle.mast_tbox.specs.Inclusions.{Adds, States, Leads, IsDirectlyBelow, by_class, by_filler, by_property, concept_pairs, prop_pairs, pairs, firsts, directly_below, leading_to}
+use Rattle.mast_tbox.specs.Inclusions.{Adds, States, Leads, IsDirectlyBelow, by_class, by_filler, by_property, concept_pairs, pairs, firsts, directly_below}
+use Rattle.mast_tbox.specs.inside.StepLists.{prop_pairs, leading_to}
 use Rattle.mast_tbox.proofs.MemberLemmas.{front, later, none, first_or, only_one}
 use Rattle.mast_tbox.proofs.EqualityLemmas.{basic_same, basic_itself, prop_same, prop_itself, inverse_role_twice}
 use Rattle.mast_tbox.proofs.OnceLemmas.{once_from, once_has}

@@ -9,7 +9,8 @@ use Rattle.mast_tbox.specs.declared.axiom.Inclusion.{Inclusion}
 use Rattle.mast_tbox.specs.declared.axiom.Inclusion.TheVariants.{Class as IClass, Exists, HasValue, Role as IRole, Attr as IAttr, Range}
 use Rattle.mast_terms.specs.declared.name.Name.{Name}
 use Rattle.mast_tbox.specs.Expressions.{inverse_role, inverse}
-use Rattle.mast_tbox.specs.Inclusions.{States, Leads, prop_pairs}
+use Rattle.mast_tbox.specs.Inclusions.{States, Leads}
+use Rattle.mast_tbox.specs.inside.StepLists.{prop_pairs}
 use Rattle.mast_tbox.specs.Lists.{Reaches, itself, onward, items}
 use Rattle.mast_tbox.specs.Properties.{IsBelow, AreEquivalent}
 use Rattle.mast_tbox.specs.inside.Components.{turned, ends, all_ends, Inside, Settled, SettlesBy, IsAround, TellsComponents}

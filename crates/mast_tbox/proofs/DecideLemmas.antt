@@ -17,9 +17,11 @@ use Rattle.mast_tbox.specs.declared.expression.Basic.TheVariants.{Class as BClas
 use Rattle.mast_tbox.specs.declared.expression.Prop.{Prop}
 use Rattle.mast_tbox.specs.declared.expression.Prop.TheVariants.{Role as PRole, Attr as PAttr}
 use Rattle.mast_tbox.specs.declared.axiom.Inclusion.{Inclusion}
-use Rattle.mast_tbox.specs.Closure.{AtomStep, Down, steps_of}
+use Rattle.mast_tbox.specs.Closure.{AtomStep, Down}
+use Rattle.mast_tbox.specs.inside.StepLists.{steps_of}
 use Rattle.mast_tbox.specs.Expressions.{pair, at, subjects}
-use Rattle.mast_tbox.specs.Inclusions.{Leads, IsDirectlyBelow, by_class, by_filler, concept_pairs, prop_pairs, pairs}
+use Rattle.mast_tbox.specs.Inclusions.{Leads, IsDirectlyBelow, by_class, by_filler, concept_pairs, pairs}
+use Rattle.mast_tbox.specs.inside.StepLists.{prop_pairs}
 use Rattle.mast_tbox.specs.Laws.{Decided, IsFinite}
 use Rattle.mast_tbox.proofs.MemberLemmas.{front, later, none, first_or, map_in}
 use Rattle.mast_tbox.proofs.BelowLemmas.{directly_pair, leads_pair, pairs_has}

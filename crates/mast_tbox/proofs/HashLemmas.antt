@@ -10,9 +10,7 @@ use Rattle.mast_terms.proofs.KeyLemmas.{name_tells}
 use Rattle.mast_tbox.specs.Hashes.{FitsRole, FitsBasic, FitsProp}
 use Rattle.mast_tbox.specs.declared.expression.RoleExpr.{RoleExpr}
 use Rattle.mast_tbox.specs.declared.expression.RoleExpr.TheVariants.{Direct, Inverse}
-use Rattle.mast_tbox.specs.declared.expression.Basic.{Basic}
 use Rattle.mast_tbox.specs.declared.expression.Basic.TheVariants.{Class as BClass, Some as BSome, Subjects}
-use Rattle.mast_tbox.specs.declared.expression.Prop.{Prop}
 use Rattle.mast_tbox.specs.declared.expression.Prop.TheVariants.{Role as PRole, Attr as PAttr}
 use Rattle.mast_tbox.specs.contracts.expression.RoleExprHash.TheImpl as role_hash
 use Rattle.mast_tbox.specs.contracts.expression.BasicHash.TheImpl as basic_hash

@@ -13,7 +13,8 @@ use Rattle.mast_tbox.specs.declared.axiom.Lined.{Lined}
 use Rattle.mast_tbox.specs.Inclusions.{auxiliary, normal_of, normal}
 use Rattle.mast_tbox.specs.Lists.{items}
 use Rattle.mast_tbox.proofs.MemberLemmas.{front, later, none, first_or, only_one}
-use Rattle.mast_tbox.specs.Numbers.{number_of, numbers, counted, AllBelow, IsNumbered}
+use Rattle.mast_tbox.specs.Numbers.{number_of, numbers, counted, IsNumbered}
+use Rattle.mast_tbox.specs.inside.Bounds.{AllBelow}
 
 counted_below : (n : ℕ) (ks : List ℕ) (bound : ℕ) → n + length ks ≤ bound → AllBelow bound (counted n ks)
 counted_below n [] bound l = tt

@@ -7,7 +7,8 @@ use Rattle.mast_tbox.specs.declared.axiom.Inclusion.{Inclusion}
 use Rattle.mast_tbox.specs.declared.axiom.Inclusion.TheVariants.{Class as IClass, Exists, HasValue, Role as IRole, Attr as IAttr, Range}
 use Rattle.mast_tbox.specs.inside.Components.{all_ends}
 use Rattle.mast_tbox.specs.Expressions.{inverse, same_prop, same_basic}
-use Rattle.mast_tbox.specs.Inclusions.{Leads, IsDirectlyBelow, concept_pairs, pairs, directly_below, leading_to}
+use Rattle.mast_tbox.specs.Inclusions.{Leads, IsDirectlyBelow, concept_pairs, pairs, directly_below}
+use Rattle.mast_tbox.specs.inside.StepLists.{leading_to}
 use Rattle.mast_tbox.specs.Laws.{Decided}
 use Rattle.mast_tbox.specs.Lists.{Reaches}
 use Rattle.mast_tbox.specs.Properties.{IsBelow, AreEquivalent}

@@ -11,7 +11,8 @@ use Rattle.mast_tbox.specs.declared.groups.Groups.{Groups}
 use Rattle.mast_tbox.specs.inside.Components.{all_ends, turned, Settled, SettlesBy, Begins, TellsComponents, next_in}
 use Rattle.mast_tbox.specs.inside.Chosen.{is_in, chosen}
 use Rattle.mast_tbox.specs.Expressions.{same_prop}
-use Rattle.mast_tbox.specs.Inclusions.{Leads, leading_to}
+use Rattle.mast_tbox.specs.Inclusions.{Leads}
+use Rattle.mast_tbox.specs.inside.StepLists.{leading_to}
 use Rattle.mast_tbox.specs.Lists.{items}
 use Rattle.mast_tbox.proofs.EqualityLemmas.{prop_same, prop_equivalence}
 use Rattle.mast_tbox.proofs.MemberLemmas.{none, first_or}

@@ -14,8 +14,10 @@ use Rattle.mast_tbox.specs.declared.expression.Prop.{Prop}
 use Rattle.mast_tbox.specs.declared.expression.Prop.TheVariants.{Role as PRole, Attr as PAttr}
 use Rattle.mast_tbox.specs.declared.axiom.Inclusion.{Inclusion}
 use Rattle.mast_tbox.specs.Expressions.{inverse_role, subjects, pair, at}
-use Rattle.mast_tbox.specs.Inclusions.{Adds, States, Leads, IsDirectlyBelow, by_class, by_filler, directly_below, leading_to}
-use Rattle.mast_tbox.specs.Closure.{AtomStep, into_class, adds, widens, if_blank, members, narrower, steps_of}
+use Rattle.mast_tbox.specs.Inclusions.{Adds, States, Leads, IsDirectlyBelow, by_class, by_filler, directly_below}
+use Rattle.mast_tbox.specs.inside.StepLists.{leading_to}
+use Rattle.mast_tbox.specs.Closure.{AtomStep, into_class, adds, widens}
+use Rattle.mast_tbox.specs.inside.StepLists.{if_blank, members, narrower, steps_of}
 use Rattle.mast_tbox.proofs.MemberLemmas.{none, map_in, map_out}
 use Rattle.mast_tbox.proofs.EqualityLemmas.{inverse_twice}
 use Rattle.mast_tbox.proofs.BelowLemmas.{leading_is, directly_is}

@@ -8,7 +8,7 @@ use Rattle.mast_tbox.specs.declared.expression.Prop.{Prop}
 use Rattle.mast_tbox.specs.declared.expression.Prop.TheVariants.{Role as PRole, Attr as PAttr}
 use Rattle.mast_tbox.specs.declared.axiom.Inclusion.{Inclusion}
 use Rattle.mast_tbox.specs.declared.axiom.Inclusion.TheVariants.{Class as IClass, Exists, HasValue, Role as IRole, Attr as IAttr, Range}
-use Rattle.mast_tbox.specs.Expressions.{inverse_role, inverse, subjects, same_basic, same_prop}
+use Rattle.mast_tbox.specs.Expressions.{inverse_role, inverse, subjects, same_basic}
 use Rattle.mast_tbox.specs.Lists.{once}
 
 -- the number of the name of the first auxiliary role; the names of documents are below it
@@ -66,15 +66,6 @@ concept_pairs (IRole r s) = (BSome r, BSome s) ∷ (BSome (inverse_role r), BSom
 concept_pairs (IAttr u v) = (Subjects u, Subjects v) ∷ []
 concept_pairs (Range u kind) = []
 
--- the pairs of a property and one that an inclusion leads to from it
-abbrev pub prop_pairs : Inclusion → List (Prop × Prop)
-prop_pairs (IClass b a) = []
-prop_pairs (Exists b r end k) = []
-prop_pairs (HasValue b u k) = []
-prop_pairs (IRole r s) = (PRole r, PRole s) ∷ (PRole (inverse_role r), PRole (inverse_role s)) ∷ []
-prop_pairs (IAttr u v) = (PAttr u, PAttr v) ∷ []
-prop_pairs (Range u kind) = []
-
 -- the pairs of all inclusions, in their order
 abbrev pub pairs : {X : Type 0} → (Inclusion → List (X × X)) → List Inclusion → List (X × X)
 pairs f [] = []
@@ -88,7 +79,3 @@ firsts same x (p ∷ ps) = if same p.1 x then p.0 ∷ firsts same x ps else firs
 -- the basic concepts that are directly below one, in the order of the inclusions, each once
 abbrev pub directly_below : List Inclusion → Basic → List Basic
 directly_below tbox b = once same_basic (firsts same_basic b (pairs concept_pairs tbox))
-
--- the properties from which an inclusion leads to one, in the order of the inclusions, each once
-abbrev pub leading_to : List Inclusion → Prop → List Prop
-leading_to tbox p = once same_prop (firsts same_prop p (pairs prop_pairs tbox))

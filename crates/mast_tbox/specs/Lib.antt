@@ -1,7 +1,6 @@
 pub mod Expressions
 pub mod Inclusions
 pub mod Lists
-pub mod Groups
 pub mod Numbers
 pub mod Hashes
 pub mod Names

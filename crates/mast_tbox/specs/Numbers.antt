@@ -1,5 +1,5 @@
 -- Numbers: the existential inclusions are numbered from 0 in order.
-use Rattle.std.specs.Prelude.{◌≡◌, ℕ, suc, ◌<◌, List, [], ◌∷◌, ◌++◌}
+use Rattle.std.specs.Prelude.{◌≡◌, ℕ, suc, List, [], ◌∷◌, ◌++◌}
 use Rattle.mast_tbox.specs.declared.axiom.Inclusion.{Inclusion}
 use Rattle.mast_tbox.specs.declared.axiom.Inclusion.TheVariants.{Class as IClass, Exists, HasValue, Role as IRole, Attr as IAttr, Range}
 use Rattle.mast_tbox.specs.declared.axiom.Lined.{Lined}
@@ -26,8 +26,3 @@ counted n (k ∷ ks) = n ∷ counted (suc n) ks
 -- the existential inclusions are numbered from 0 in order
 abbrev pub IsNumbered : List (Lined Inclusion) → Type 0
 IsNumbered ls = numbers ls ≡ counted 0 (numbers ls)
-
--- each number is less than the bound
-abbrev pub AllBelow : ℕ → List ℕ → Type 0
-AllBelow n [] = Unit {0}
-AllBelow n (k ∷ ks) = (k < n) × AllBelow n ks

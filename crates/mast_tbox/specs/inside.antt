@@ -1,4 +1,7 @@
--- What private functions alone cite: sets of properties and notes of chiefs, components, and judging by chiefs.
+-- What private functions alone cite: lists of steps and the groups of an index, sets of properties and notes of chiefs, components, and judging by chiefs.
+pub mod Bounds
+pub mod StepLists
+pub mod Groups
 pub mod Chosen
 pub mod Components
 pub mod Judging

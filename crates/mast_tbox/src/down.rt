@@ -2,7 +2,8 @@
 ghost use Rattle.std.specs.Prelude.{◌≡◌, ◌↔◌, Contains, IfOk, OnOk};
 ghost use Rattle.mast_cq.specs.declared.atom.Atom.{Atom};
 ghost use Rattle.mast_cq.specs.NormalForms.{Ordered};
-ghost use Rattle.mast_tbox.specs.Closure.{Down, steps_of, if_blank, all_at, all_pairs};
+ghost use Rattle.mast_tbox.specs.Closure.{Down};
+ghost use Rattle.mast_tbox.specs.inside.StepLists.{steps_of, if_blank, all_at, all_pairs};
 ghost use Rattle.mast_tbox.specs.inside.Chosen.{AreAdded};
 
 use crate::{Basic, NormalTBox, Prop, RoleExpr};

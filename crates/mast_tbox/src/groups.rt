@@ -1,6 +1,6 @@
 //! Lists by key: what each key has, in the order in which it was added, each once.
 ghost use Rattle.std.specs.Prelude.{◌≡◌, [], OnOk};
-ghost use Rattle.mast_tbox.specs.Groups.{found, put};
+ghost use Rattle.mast_tbox.specs.inside.Groups.{found, put};
 
 use indexmap::{IndexMap, IndexSet};
 use mast_terms::NoMemory;

@@ -1,8 +1,9 @@
 //! The indices of inclusions by their right sides.
 ghost use Rattle.std.specs.Prelude.{◌≡◌, [], ◌∷◌, IfOk, OnOk};
 ghost use Rattle.mast_tbox.specs.Expressions.{same_basic, same_prop};
-ghost use Rattle.mast_tbox.specs.Inclusions.{concept_pairs, prop_pairs, directly_below, leading_to};
-ghost use Rattle.mast_tbox.specs.Groups.{found, AreGrown};
+ghost use Rattle.mast_tbox.specs.Inclusions.{concept_pairs, directly_below};
+ghost use Rattle.mast_tbox.specs.inside.StepLists.{prop_pairs, leading_to};
+ghost use Rattle.mast_tbox.specs.inside.Groups.{found, AreGrown};
 ghost use Rattle.mast_tbox.specs.declared.expression.Basic.{Basic};
 ghost use Rattle.mast_tbox.specs.declared.expression.Prop.{Prop};
 

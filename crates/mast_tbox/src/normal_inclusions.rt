@@ -1,9 +1,11 @@
 //! The normal inclusions of a TBox.
 ghost use Rattle.std.specs.Prelude.{◌≡◌, ◌++◌, ◌<◌, Some, IfOk, OnOk};
-ghost use Rattle.mast_tbox.specs.Inclusions.{normal as normal_inclusions, normal_of, directly_below, leading_to};
+ghost use Rattle.mast_tbox.specs.Inclusions.{normal as normal_inclusions, normal_of, directly_below};
+ghost use Rattle.mast_tbox.specs.inside.StepLists.{leading_to};
 ghost use Rattle.mast_tbox.specs.declared.axiom.Inclusion.TheVariants.{Exists};
 ghost use Rattle.mast_tbox.specs.Lists.{items};
-ghost use Rattle.mast_tbox.specs.Numbers.{AllBelow, number_of};
+ghost use Rattle.mast_tbox.specs.Numbers.{number_of};
+ghost use Rattle.mast_tbox.specs.inside.Bounds.{AllBelow};
 
 use crate::expression::{basic_laws, prop_laws};
 use crate::groups::Groups;
@@ -24,7 +26,7 @@ pub struct NormalTBox {
 impl Model for NormalTBox {
     ghost use Rattle.std.specs.Prelude.{List};
     ghost use Rattle.mast_tbox.specs.declared.axiom.Inclusion.{Inclusion};
-    ghost use Rattle.mast_tbox.specs.Groups.{IsIndex};
+    ghost use Rattle.mast_tbox.specs.inside.Groups.{IsIndex};
 
     ghost Value = { List Inclusion };
 

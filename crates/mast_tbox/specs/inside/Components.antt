@@ -6,7 +6,7 @@ use Rattle.mast_tbox.specs.declared.axiom.Inclusion.{Inclusion}
 use Rattle.mast_tbox.specs.declared.axiom.Inclusion.TheVariants.{Class as IClass, Exists, HasValue, Role as IRole, Attr as IAttr, Range}
 use Rattle.mast_tbox.specs.declared.groups.Groups.{Groups}
 use Rattle.mast_tbox.specs.Expressions.{inverse_role, same_prop}
-use Rattle.mast_tbox.specs.Groups.{found}
+use Rattle.mast_tbox.specs.inside.Groups.{found}
 use Rattle.mast_tbox.specs.Lists.{Reaches}
 use Rattle.mast_tbox.specs.Properties.{AreEquivalent}
 use Rattle.mast_tbox.specs.inside.Chosen.{is_in, noted_chief}

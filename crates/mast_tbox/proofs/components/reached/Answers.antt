@@ -3,7 +3,7 @@ use Rattle.std.specs.List.{filter}
 use Rattle.indexmap.specs.IndexSet.{insert_all}
 use Rattle.mast_tbox.specs.contracts.expression.PropPartialEq.TheImpl as prop
 use Rattle.mast_tbox.specs.Expressions.{same_prop}
-use Rattle.mast_tbox.specs.Groups.{found}
+use Rattle.mast_tbox.specs.inside.Groups.{found}
 use Rattle.mast_tbox.specs.inside.Chosen.{is_in}
 use Rattle.mast_tbox.specs.inside.Components.{Inside, next_in}
 use Rattle.mast_tbox.proofs.EqualityLemmas.{prop_same}

@@ -4,7 +4,7 @@ use Rattle.std.proofs.lemmas.Result.{on_ok_weaker}
 use Rattle.mast_tbox.specs.contracts.expression.BasicPartialEq.TheImpl as basic
 use Rattle.mast_tbox.specs.declared.expression.Basic.{Basic}
 use Rattle.mast_tbox.specs.Expressions.{same_basic}
-use Rattle.mast_tbox.specs.Groups.{found, put}
+use Rattle.mast_tbox.specs.inside.Groups.{found, put}
 use Rattle.mast_tbox.proofs.EqualityLemmas.{basic_same}
 use Rattle.mast_tbox.proofs.IndexLemmas.{added_one}
 use Rattle.mast_tbox.proofs.index.add_concept.Goals as goal

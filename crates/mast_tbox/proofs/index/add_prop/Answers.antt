@@ -4,7 +4,7 @@ use Rattle.std.proofs.lemmas.Result.{on_ok_weaker}
 use Rattle.mast_tbox.specs.contracts.expression.PropPartialEq.TheImpl as prop
 use Rattle.mast_tbox.specs.declared.expression.Prop.{Prop}
 use Rattle.mast_tbox.specs.Expressions.{same_prop}
-use Rattle.mast_tbox.specs.Groups.{found, put}
+use Rattle.mast_tbox.specs.inside.Groups.{found, put}
 use Rattle.mast_tbox.proofs.EqualityLemmas.{prop_same}
 use Rattle.mast_tbox.proofs.IndexLemmas.{added_one}
 use Rattle.mast_tbox.proofs.index.add_prop.Goals as goal

@@ -3,7 +3,7 @@ use Rattle.std.proofs.lemmas.List.{drop_all}
 use Rattle.indexmap.specs.IndexSet.{insert_all}
 use Rattle.mast_tbox.specs.contracts.expression.BasicPartialEq.TheImpl as basic
 use Rattle.mast_tbox.specs.Expressions.{same_basic}
-use Rattle.mast_tbox.specs.Groups.{found}
+use Rattle.mast_tbox.specs.inside.Groups.{found}
 use Rattle.mast_tbox.specs.Inclusions.{concept_pairs, pairs, firsts}
 use Rattle.mast_tbox.proofs.EqualityLemmas.{basic_same, basic_itself}
 use Rattle.mast_tbox.proofs.IndexLemmas.{all_added}

@@ -2,7 +2,7 @@ use Rattle.std.proofs.Common.{◌≡◌, [], drop}
 use Rattle.indexmap.specs.IndexSet.{insert_all}
 use Rattle.mast_tbox.specs.declared.expression.Basic.{Basic}
 use Rattle.mast_tbox.specs.Expressions.{same_basic}
-use Rattle.mast_tbox.specs.Groups.{found}
+use Rattle.mast_tbox.specs.inside.Groups.{found}
 use Rattle.mast_tbox.specs.Inclusions.{concept_pairs, pairs, firsts}
 use Rattle.mast_tbox.proofs.index.concepts_below.Given as goal
 

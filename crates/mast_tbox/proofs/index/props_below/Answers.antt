@@ -3,8 +3,9 @@ use Rattle.std.proofs.lemmas.List.{drop_all}
 use Rattle.indexmap.specs.IndexSet.{insert_all}
 use Rattle.mast_tbox.specs.contracts.expression.PropPartialEq.TheImpl as prop
 use Rattle.mast_tbox.specs.Expressions.{same_prop}
-use Rattle.mast_tbox.specs.Groups.{found}
-use Rattle.mast_tbox.specs.Inclusions.{prop_pairs, pairs, firsts}
+use Rattle.mast_tbox.specs.inside.Groups.{found}
+use Rattle.mast_tbox.specs.Inclusions.{pairs, firsts}
+use Rattle.mast_tbox.specs.inside.StepLists.{prop_pairs}
 use Rattle.mast_tbox.proofs.EqualityLemmas.{prop_same, prop_itself}
 use Rattle.mast_tbox.proofs.IndexLemmas.{all_added}
 use Rattle.mast_tbox.proofs.index.props_below.Goals as goal

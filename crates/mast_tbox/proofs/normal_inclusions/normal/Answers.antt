@@ -1,5 +1,6 @@
 use Rattle.std.proofs.Common.{ap, ◌∙◌}
-use Rattle.mast_tbox.specs.Inclusions.{directly_below, leading_to}
+use Rattle.mast_tbox.specs.Inclusions.{directly_below}
+use Rattle.mast_tbox.specs.inside.StepLists.{leading_to}
 use Rattle.mast_tbox.proofs.normal_inclusions.normal.Goals as goal
 
 pub invariant_of-result : goal.invariant_of-result

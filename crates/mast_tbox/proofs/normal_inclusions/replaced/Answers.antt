@@ -1,7 +1,8 @@
 use Rattle.std.proofs.Common.{◌++◌, ap, subst, sym, arith}
 use Rattle.mast_tbox.specs.Inclusions.{normal}
 use Rattle.mast_tbox.specs.Lists.{items}
-use Rattle.mast_tbox.specs.Numbers.{AllBelow, numbers}
+use Rattle.mast_tbox.specs.Numbers.{numbers}
+use Rattle.mast_tbox.specs.inside.Bounds.{AllBelow}
 use Rattle.mast_tbox.proofs.NumberLemmas.{numbers_below, below_at}
 use Rattle.mast_tbox.proofs.normal_inclusions.replaced.Goals as goal
 

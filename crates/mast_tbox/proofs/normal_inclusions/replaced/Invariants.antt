@@ -1,7 +1,8 @@
 use Rattle.std.proofs.Common.{◌≡◌, ◌++◌, drop}
 use Rattle.mast_tbox.specs.Inclusions.{normal}
 use Rattle.mast_tbox.specs.Lists.{items}
-use Rattle.mast_tbox.specs.Numbers.{AllBelow, numbers}
+use Rattle.mast_tbox.specs.Numbers.{numbers}
+use Rattle.mast_tbox.specs.inside.Bounds.{AllBelow}
 use Rattle.mast_tbox.proofs.normal_inclusions.replaced.Given as goal
 
 abbrev pub invariant-loop-line : goal.invariant-loop-line

@@ -3,7 +3,7 @@ use Rattle.std.proofs.lemmas.Result.{IfOk-equal}
 use Rattle.indexmap.specs.IndexSet.{insert_all}
 use Rattle.mast_cq.specs.contracts.atom.AtomPartialEq.TheImpl as atom
 use Rattle.mast_cq.specs.declared.atom.Atom.{Atom}
-use Rattle.mast_tbox.specs.Closure.{steps_of, if_blank}
+use Rattle.mast_tbox.specs.inside.StepLists.{steps_of, if_blank}
 use Rattle.mast_tbox.specs.Expressions.{at, pair}
 use Rattle.mast_tbox.specs.Inclusions.{directly_below}
 use Rattle.mast_tbox.specs.declared.expression.RoleExpr.TheVariants.{Direct, Inverse}

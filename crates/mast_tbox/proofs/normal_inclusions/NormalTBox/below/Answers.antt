@@ -1,7 +1,7 @@
 use Rattle.std.proofs.Common.{◌≡◌, ap, ◌∙◌}
 use Rattle.mast_tbox.specs.contracts.expression.BasicPartialEq.TheImpl as basic
 use Rattle.mast_tbox.specs.Expressions.{same_basic}
-use Rattle.mast_tbox.specs.Groups.{found}
+use Rattle.mast_tbox.specs.inside.Groups.{found}
 use Rattle.mast_tbox.specs.Inclusions.{directly_below}
 use Rattle.mast_tbox.proofs.normal_inclusions.NormalTBox.below.Goals as goal
 

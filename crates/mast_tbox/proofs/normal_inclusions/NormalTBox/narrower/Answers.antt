@@ -1,8 +1,8 @@
 use Rattle.std.proofs.Common.{◌≡◌, ap, ◌∙◌}
 use Rattle.mast_tbox.specs.contracts.expression.PropPartialEq.TheImpl as prop
 use Rattle.mast_tbox.specs.Expressions.{same_prop}
-use Rattle.mast_tbox.specs.Groups.{found}
-use Rattle.mast_tbox.specs.Inclusions.{leading_to}
+use Rattle.mast_tbox.specs.inside.Groups.{found}
+use Rattle.mast_tbox.specs.inside.StepLists.{leading_to}
 use Rattle.mast_tbox.proofs.normal_inclusions.NormalTBox.narrower.Goals as goal
 
 pub returns : goal.returns

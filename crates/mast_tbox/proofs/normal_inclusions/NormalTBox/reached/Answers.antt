@@ -1,6 +1,7 @@
 use Rattle.std.proofs.Common.{◌≡◌, sym, arith, slice_get, Some}
 use Rattle.mast_cq.specs.contracts.atom.AtomPartialEq.TheImpl as atom
-use Rattle.mast_tbox.specs.Closure.{steps_of, AtomStep}
+use Rattle.mast_tbox.specs.Closure.{AtomStep}
+use Rattle.mast_tbox.specs.inside.StepLists.{steps_of}
 use Rattle.mast_tbox.proofs.StepLemmas.{steps_are}
 use Rattle.mast_tbox.proofs.WorkLemmas.{worked_first, worked_more, worked_by, past_end, before_end}
 use Rattle.mast_tbox.proofs.normal_inclusions.NormalTBox.reached.Goals as goal

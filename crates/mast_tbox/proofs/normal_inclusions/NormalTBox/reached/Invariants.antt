@@ -1,4 +1,4 @@
-use Rattle.mast_tbox.specs.Closure.{steps_of}
+use Rattle.mast_tbox.specs.inside.StepLists.{steps_of}
 use Rattle.mast_tbox.proofs.WorkLemmas.{Worked}
 use Rattle.mast_tbox.proofs.normal_inclusions.NormalTBox.reached.Given as goal
 

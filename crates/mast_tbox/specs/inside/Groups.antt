@@ -7,7 +7,8 @@ use Rattle.mast_tbox.specs.declared.expression.Basic.{Basic}
 use Rattle.mast_tbox.specs.declared.expression.Prop.{Prop}
 use Rattle.mast_tbox.specs.declared.axiom.Inclusion.{Inclusion}
 use Rattle.mast_tbox.specs.Expressions.{same_basic, same_prop}
-use Rattle.mast_tbox.specs.Inclusions.{firsts, directly_below, leading_to}
+use Rattle.mast_tbox.specs.Inclusions.{firsts, directly_below}
+use Rattle.mast_tbox.specs.inside.StepLists.{leading_to}
 
 module _ {T : Type 0} (eq : T → T → Bool) where
   -- the items of a key
