@@ -13,9 +13,9 @@ mod unifier;
 
 pub use atom::{Arg, Atom, arg_laws, atom_laws};
 pub use laws::{
-    Truth, merge_origin_law, normal_form_law, normal_meaning_law, normal_origin_law, places_law, property_law,
-    step_meaning_law, step_origin_law, unify_complete_law, unify_moves_law, unify_none_law,
-    unify_sound_law, unify_winner_law,
+    Truth, merge_origin_law, normal_form_law, normal_meaning_law, normal_origin_law, places_law,
+    property_law, step_meaning_law, step_origin_law, unify_complete_law, unify_moves_law,
+    unify_none_law, unify_sound_law, unify_winner_law,
 };
 pub use normal_form::norm;
 pub use query::{Cq, CqRef, Ucq, query_laws, view_laws};

@@ -153,52 +153,58 @@ fn replaced_atoms(alloc: Global, by: Bindings, atoms: &[Atom]) -> Result<Vec<Ato
 pub fn meet(answer: &[Arg], g: Atom, h: Atom) -> Option<Met>
     ensures { meeting_of result ≡ meeting answer.now g h }
 {
-    match (g, h) {
-        (
-            Atom::Class { name, arg: x },
-            Atom::Class {
-                name: other,
-                arg: z,
-            },
-        ) => {
+    match g {
+        Atom::Class { name, arg } => meet_class(answer, name, arg, h),
+        Atom::Role { name, from, to } => meet_role(answer, name, from, to, h),
+        Atom::Attr { name, from, value } => meet_attr(answer, name, from, value, h),
+    }
+}
+
+fn meet_class(answer: &[Arg], name: Name, x: Arg, h: Atom) -> Option<Met>
+    ensures { meeting_of result ≡ meeting answer.now (atoms.Class name x) h }
+{
+    match h {
+        Atom::Class { name: other, arg } => {
             if name.0 != other.0 {
                 return None;
             }
-            meet_classes(answer, name, x, z)
+            meet_classes(answer, name, x, arg)
         }
-        (
-            Atom::Role {
-                name,
-                from: x,
-                to: y,
-            },
-            Atom::Role {
-                name: other,
-                from: z,
-                to: w,
-            },
-        ) => {
+        _ => None,
+    }
+}
+
+fn meet_role(answer: &[Arg], name: Name, x: Arg, y: Arg, h: Atom) -> Option<Met>
+    ensures { meeting_of result ≡ meeting answer.now (atoms.Role name x y) h }
+{
+    match h {
+        Atom::Role {
+            name: other,
+            from,
+            to,
+        } => {
             if name.0 != other.0 {
                 return None;
             }
-            meet_roles(answer, name, x, y, z, w)
+            meet_roles(answer, name, x, y, from, to)
         }
-        (
-            Atom::Attr {
-                name,
-                from: x,
-                value: y,
-            },
-            Atom::Attr {
-                name: other,
-                from: z,
-                value: w,
-            },
-        ) => {
+        _ => None,
+    }
+}
+
+fn meet_attr(answer: &[Arg], name: Name, x: Arg, y: Arg, h: Atom) -> Option<Met>
+    ensures { meeting_of result ≡ meeting answer.now (atoms.Attr name x y) h }
+{
+    match h {
+        Atom::Attr {
+            name: other,
+            from,
+            value,
+        } => {
             if name.0 != other.0 {
                 return None;
             }
-            meet_attrs(answer, name, x, y, z, w)
+            meet_attrs(answer, name, x, y, from, value)
         }
         _ => None,
     }
