@@ -1,6 +1,9 @@
 //! Tests of mast_cq: worked queries, with what they become, and that calls succeed where memory is there.
 #![tactic(auto)]
 
+mod facts;
+
+pub use facts::{Facts, facts_laws};
 use indexmap::IndexSet;
 use mast_cq::{Arg, Atom, CqRef, SortClash, norm, sort_breach, unify};
 use mast_terms::Name;
