@@ -1,9 +1,9 @@
 -- Each list of lines is a set that has a text.
-use Rattle.std.proofs.Common.{◌≡◌, ◌⊎◌, inl, inr, ℕ, zero, List, [], ◌∷◌, subst, sym, ap, ◌∙◌, refl, nat_cmp, Less, Equal, Greater, Ordering, Contains, arith}
+use Rattle.std.proofs.Common.{◌≡◌, ◌⊎◌, inl, inr, ℕ, List, [], ◌∷◌, subst, sym, ap, ◌∙◌, refl, Less, Equal, Greater, Ordering, Contains}
 use Rattle.std.specs.Ordering.{ordering_reverse}
 use Rattle.std.specs.List.{AllByRecursion}
 use Rattle.std.specs.List.Sorted.{IsStrictlySortedBy}
-use Rattle.std.specs.Cmp.Lexicographic.{slice_cmp, nat_list_cmp_total}
+use Rattle.std.specs.Cmp.Lexicographic.{nat_list_cmp_total}
 use Rattle.std.proofs.lemmas.Map.Lookups.{exact_bytes}
 use Rattle.mast_tables.specs.Rows.{Row}
 use Rattle.mast_cli.specs.declared.mapping.Mapping.{Mapping}

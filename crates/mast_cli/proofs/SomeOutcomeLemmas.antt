@@ -22,9 +22,8 @@ use Rattle.mast_cli.specs.declared.status.Status.{Status}
 use Rattle.mast_cli.specs.declared.status.Status.TheVariants as st
 use Rattle.mast_cli.specs.Laws.{SomeOutcome}
 use Rattle.mast_cli.specs.Lines as lines
-use Rattle.mast_cli.specs.MappingForm.{Said, said}
+use Rattle.mast_cli.specs.MappingForm.{Said}
 use Rattle.mast_cli.specs.inside.Form.{form_of}
-use Rattle.mast_cli.specs.Mappings.{IsForm}
 use Rattle.mast_cli.specs.Outcome.{Declares, DocumentEvent, MappingsEvent, HasMapping, RowsOutcome, FactsOutcome, Outcome}
 use Rattle.mast_cli.specs.Words.{task_of}
 use Rattle.mast_cli.proofs.FormLemmas.{form_read, form_is_read}
