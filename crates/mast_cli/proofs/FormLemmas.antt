@@ -7,7 +7,6 @@ use Rattle.mast_terms.specs.Answers.{Answers}
 use Rattle.mast_tree.specs.Prologue.{IsPrologue}
 use Rattle.mast_tree.specs.inside.Prologue.{prologue_of}
 use Rattle.mast_tree.proofs.PrologueLemmas.{PrologueTells, prologue_tells, prologue_is}
-use Rattle.mast_tree.specs.Source.{AreTokens}
 use Rattle.mast_tree.specs.declared.item.Item.{Item}
 use Rattle.mast_tree.specs.declared.token.Token.{Token}
 use Rattle.mast_tree.specs.declared.shape.ShapeBreach.{ShapeBreach}
@@ -191,14 +190,30 @@ form_is_read source tokens items y h =
 
 -- the reader's answer as the form's
 pub form_answers : (source : List ℕ) (tokens : List Token) (items : List Item) (r : Result Mapping (Stop Unbuilt))
-    → Answers r (λ mapping. AreTokens source tokens → form_of source tokens items ≡ Some (said mapping)) (λ _. AreTokens source tokens → form_of source tokens items ≡ None)
-    → Answers r (λ mapping. AreTokens source tokens → IsForm source tokens items (said mapping)) (λ _. AreTokens source tokens → (other : Said) → IsForm source tokens items other → ⊥)
-form_answers source tokens items (Ok mapping) h = λ a. form_read source tokens items (said mapping) (h a)
-form_answers source tokens items (Err (Named unbuilt)) h = λ a other f. none (form_of source tokens items) (h a) other (form_is_read source tokens items other f)
+    → Answers r (λ mapping. form_of source tokens items ≡ Some (said mapping)) (λ _. form_of source tokens items ≡ None)
+    → Answers r (λ mapping. IsForm source tokens items (said mapping)) (λ _. (other : Said) → IsForm source tokens items other → ⊥)
+form_answers source tokens items (Ok mapping) h = form_read source tokens items (said mapping) h
+form_answers source tokens items (Err (Named unbuilt)) h = λ other f. none (form_of source tokens items) h other (form_is_read source tokens items other f)
   where
     none : (o : Option Said) → o ≡ None → (x : Said) → o ≡ Some x → ⊥
     none o e x g = let d : ◌≡◌ {A = Option Said} None (Some x) = sym e ∙ g in absurd (cc)
 form_answers source tokens items (Err NoMemory) h = tt
+
+-- what the pair behind these prefixes tells is what the document tells
+pub pair_answers : (source : List ℕ) (tokens : List Token) (items main : List Item) (table : List (List ℕ × List ℕ)) (r : Result Mapping (Stop Unbuilt))
+    → prologue_of source tokens (codes "Mappings") [] items ≡ Ok table → main_of source tokens items ≡ Some main
+    → Answers r (λ mapping. pair_in source tokens table main ≡ Some (said mapping)) (λ _. pair_in source tokens table main ≡ None)
+    → Answers r (λ mapping. form_of source tokens items ≡ Some (said mapping)) (λ _. form_of source tokens items ≡ None)
+pair_answers source tokens items main table r prologue last h = inner r h
+  where
+    same : form_of source tokens items ≡ pair_in source tokens table main
+    same = ap (λ p. after_prologue source tokens p items) prologue ∙ ap (λ o. option_and_then (λ inside. pair_in source tokens table inside) o) last
+
+    inner : (r : Result Mapping (Stop Unbuilt)) → Answers r (λ mapping. pair_in source tokens table main ≡ Some (said mapping)) (λ _. pair_in source tokens table main ≡ None)
+        → Answers r (λ mapping. form_of source tokens items ≡ Some (said mapping)) (λ _. form_of source tokens items ≡ None)
+    inner (Ok mapping) told = same ∙ told
+    inner (Err (Named unbuilt)) told = same ∙ told
+    inner (Err NoMemory) told = tt
 
 -- a document says one thing
 pub one_said : (source : List ℕ) (tokens : List Token) (items : List Item) (a b : Said) → IsForm source tokens items a → IsForm source tokens items b → a ≡ b
@@ -206,7 +221,7 @@ one_said source tokens items a b f g = inner a b (sym (form_is_read source token
 
 -- what is read is the one thing that the document says
 pub form_only : (source : List ℕ) (tokens : List Token) (items : List Item) (r : Result Mapping (Stop Unbuilt))
-    → Answers r (λ mapping. AreTokens source tokens → form_of source tokens items ≡ Some (said mapping)) (λ _. AreTokens source tokens → form_of source tokens items ≡ None)
-    → IfOk r (λ mapping. AreTokens source tokens → (other : Said) → IsForm source tokens items other → other ≡ said mapping)
-form_only source tokens items (Ok mapping) h = λ a other f. one_said source tokens items other (said mapping) f (form_read source tokens items (said mapping) (h a))
+    → Answers r (λ mapping. form_of source tokens items ≡ Some (said mapping)) (λ _. form_of source tokens items ≡ None)
+    → IfOk r (λ mapping. (other : Said) → IsForm source tokens items other → other ≡ said mapping)
+form_only source tokens items (Ok mapping) h = λ other f. one_said source tokens items other (said mapping) f (form_read source tokens items (said mapping) h)
 form_only source tokens items (Err stop) h = tt

@@ -184,17 +184,15 @@ refusal_of {T} P Q stopped refusal same h = subst (λ s. Answers {T = T} (Err s)
 -- a document that was read declares the mapping of its form
 pub declares : (bytes source : List ℕ) (list slice tokens : List Token) (items : List Item) (mapping : Mapping)
     → source ≡ bytes → slice ≡ list → tokens ≡ slice → AreTokens bytes list → IsTree slice items
-    → (AreTokens source tokens → IsForm source tokens items (said mapping)) → Declares bytes mapping
+    → IsForm source tokens items (said mapping) → Declares bytes mapping
 declares bytes source list slice tokens items mapping same_source same_slice same_tokens are tree form =
     let here = subst (λ ts. AreTokens bytes ts) (sym (same_tokens ∙ same_slice)) are in
-    let there = subst (λ b. AreTokens b tokens) (sym same_source) here in
-    (tokens, items, here, subst (λ ts. IsTree ts items) (sym same_tokens) tree, subst (λ b. IsForm b tokens items (said mapping)) same_source (form there))
+    (tokens, items, here, subst (λ ts. IsTree ts items) (sym same_tokens) tree, subst (λ b. IsForm b tokens items (said mapping)) same_source form)
 
 -- a document that was read and is of no form ends the run so
 pub unread : (bytes source : List ℕ) (list slice tokens : List Token) (items : List Item) (status : Status) (text : List ℕ)
     → source ≡ bytes → slice ≡ list → tokens ≡ slice → AreTokens bytes list → IsTree slice items
-    → (AreTokens source tokens → (what : Said) → IsForm source tokens items what → ⊥) → IsOf unbuilt status text → DocumentEvent bytes status text
+    → ((what : Said) → IsForm source tokens items what → ⊥) → IsOf unbuilt status text → DocumentEvent bytes status text
 unread bytes source list slice tokens items status text same_source same_slice same_tokens are tree none ends =
     let here = subst (λ ts. AreTokens bytes ts) (sym (same_tokens ∙ same_slice)) are in
-    let there = subst (λ b. AreTokens b tokens) (sym same_source) here in
-    inr (inr (tokens, items, here, subst (λ ts. IsTree ts items) (sym same_tokens) tree, (λ what form. none there what (subst (λ b. IsForm b tokens items what) (sym same_source) form)), ends))
+    inr (inr (tokens, items, here, subst (λ ts. IsTree ts items) (sym same_tokens) tree, (λ what form. none what (subst (λ b. IsForm b tokens items what) (sym same_source) form)), ends))

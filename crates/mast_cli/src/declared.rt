@@ -2,7 +2,6 @@
 ghost use Rattle.std.specs.Prelude.{◌≡◌, ◌≤◌, ◌<◌, ◌+◌, ◌++◌, ◌∷◌, [], length, map, not, true, IfOk, IfSome, None, Some};
 ghost use Rattle.mast_terms.specs.Vocabularies.{stands};
 ghost use Rattle.mast_terms.specs.Answers.{Answers};
-ghost use Rattle.mast_tree.specs.Source.{AreTokens};
 ghost use Rattle.mast_cli.specs.Columns.{names_of, number_of};
 ghost use Rattle.mast_cli.specs.inside.Tables.{IsIndexed, bytes_of};
 ghost use Rattle.mast_cli.specs.MappingForm as form;
@@ -85,7 +84,7 @@ fn add_name(names: &mut IndexSet<Vec<u8>>, alloc: Global, name: &[u8]) -> Result
 
 /// `NAME "FILE" COLUMN ..`, with one column or more.
 pub fn read_table(alloc: Global, doc: &Doc<'_>, items: &[Item]) -> Result<Declared, Stop<Unbuilt>>
-    ensures { Answers result (λ table. AreTokens doc.now.source.now doc.now.tokens.now → form.table_in doc.now.source.now doc.now.tokens.now items.now ≡ Some table) (λ _. AreTokens doc.now.source.now doc.now.tokens.now → form.table_in doc.now.source.now doc.now.tokens.now items.now ≡ None) }
+    ensures { Answers result (λ table. form.table_in doc.now.source.now doc.now.tokens.now items.now ≡ Some table) (λ _. form.table_in doc.now.source.now doc.now.tokens.now items.now ≡ None) }
 {
     match items {
         [name, file, columns @ ..] => {
@@ -107,7 +106,7 @@ fn named_table(
     file: &Item,
     columns: &[Item],
 ) -> Result<Declared, Stop<Unbuilt>>
-    ensures { Answers result (λ table. AreTokens doc.now.source.now doc.now.tokens.now → form.named_table doc.now.source.now doc.now.tokens.now name.now file.now columns.now ≡ Some table) (λ _. AreTokens doc.now.source.now doc.now.tokens.now → form.named_table doc.now.source.now doc.now.tokens.now name.now file.now columns.now ≡ None) }
+    ensures { Answers result (λ table. form.named_table doc.now.source.now doc.now.tokens.now name.now file.now columns.now ≡ Some table) (λ _. form.named_table doc.now.source.now doc.now.tokens.now name.now file.now columns.now ≡ None) }
 {
     let name = identifier(doc, name)?;
     let file = plain_text(alloc, doc, file)?;
@@ -138,7 +137,7 @@ struct Columns {
 }
 
 fn read_columns(alloc: Global, doc: &Doc<'_>, items: &[Item]) -> Result<Columns, Stop<Unbuilt>>
-    ensures value { Answers result (λ columns. AreTokens doc.now.source.now doc.now.tokens.now → form.columns_of doc.now.source.now doc.now.tokens.now items.now ≡ Some columns.list) (λ _. AreTokens doc.now.source.now doc.now.tokens.now → form.columns_of doc.now.source.now doc.now.tokens.now items.now ≡ None) }
+    ensures value { Answers result (λ columns. form.columns_of doc.now.source.now doc.now.tokens.now items.now ≡ Some columns.list) (λ _. form.columns_of doc.now.source.now doc.now.tokens.now items.now ≡ None) }
     ensures indexed { IfOk result (λ columns. IsIndexed columns.list columns.names.keys) }
 {
     if items.len() >= u32::MAX as usize {
@@ -158,14 +157,14 @@ fn read_columns(alloc: Global, doc: &Doc<'_>, items: &[Item]) -> Result<Columns,
 
 // `Column(..)`
 fn column_item(alloc: Global, doc: &Doc<'_>, item: &Item) -> Result<Column, Stop<Unbuilt>>
-    ensures { Answers result (λ column. AreTokens doc.now.source.now doc.now.tokens.now → form.column_of doc.now.source.now doc.now.tokens.now item.now ≡ Some column) (λ _. AreTokens doc.now.source.now doc.now.tokens.now → form.column_of doc.now.source.now doc.now.tokens.now item.now ≡ None) }
+    ensures { Answers result (λ column. form.column_of doc.now.source.now doc.now.tokens.now item.now ≡ Some column) (λ _. form.column_of doc.now.source.now doc.now.tokens.now item.now ≡ None) }
 {
     read_column(alloc, doc, node(doc, item, "Column")?)
 }
 
 // `NAME KIND` or `NAME KIND Null`
 fn read_column(alloc: Global, doc: &Doc<'_>, items: &[Item]) -> Result<Column, Stop<Unbuilt>>
-    ensures { Answers result (λ column. AreTokens doc.now.source.now doc.now.tokens.now → form.column_in doc.now.source.now doc.now.tokens.now items.now ≡ Some column) (λ _. AreTokens doc.now.source.now doc.now.tokens.now → form.column_in doc.now.source.now doc.now.tokens.now items.now ≡ None) }
+    ensures { Answers result (λ column. form.column_in doc.now.source.now doc.now.tokens.now items.now ≡ Some column) (λ _. form.column_in doc.now.source.now doc.now.tokens.now items.now ≡ None) }
 {
     match items {
         [name, kind] => named_column(alloc, doc, name, kind, false),
@@ -187,7 +186,7 @@ fn named_column(
     kind: &Item,
     null: bool,
 ) -> Result<Column, Stop<Unbuilt>>
-    ensures { Answers result (λ column. AreTokens doc.now.source.now doc.now.tokens.now → form.named_column doc.now.source.now doc.now.tokens.now null name.now kind.now ≡ Some column) (λ _. AreTokens doc.now.source.now doc.now.tokens.now → form.named_column doc.now.source.now doc.now.tokens.now null name.now kind.now ≡ None) }
+    ensures { Answers result (λ column. form.named_column doc.now.source.now doc.now.tokens.now null name.now kind.now ≡ Some column) (λ _. form.named_column doc.now.source.now doc.now.tokens.now null name.now kind.now ≡ None) }
 {
     let name = identifier(doc, name)?;
     let kind = read_kind(identifier(doc, kind)?)?;

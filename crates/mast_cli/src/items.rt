@@ -1,7 +1,6 @@
 //! The items that forms are made of.
 ghost use Rattle.std.specs.Prelude.{◌≡◌, None, Some, slice_get};
 ghost use Rattle.mast_terms.specs.Answers.{Answers};
-ghost use Rattle.mast_tree.specs.Source.{AreTokens};
 ghost use Rattle.mast_cli.specs.MappingForm as form;
 
 use crate::mapping::Unbuilt;
@@ -11,7 +10,7 @@ use std::alloc::Global;
 
 /// The items of a node of this word.
 pub fn node<'d>(doc: &Doc<'_>, item: &'d Item, word: &str) -> Result<&'d [Item], Stop<Unbuilt>>
-    ensures { Answers result (λ items. AreTokens doc.now.source.now doc.now.tokens.now → form.node_of doc.now.source.now doc.now.tokens.now word.now item.now ≡ Some items.now) (λ _. AreTokens doc.now.source.now doc.now.tokens.now → form.node_of doc.now.source.now doc.now.tokens.now word.now item.now ≡ None) }
+    ensures { Answers result (λ items. form.node_of doc.now.source.now doc.now.tokens.now word.now item.now ≡ Some items.now) (λ _. form.node_of doc.now.source.now doc.now.tokens.now word.now item.now ≡ None) }
 {
     match item {
         Item::Node { token, items } => {
@@ -27,7 +26,7 @@ pub fn node<'d>(doc: &Doc<'_>, item: &'d Item, word: &str) -> Result<&'d [Item],
 
 /// A leaf of ASCII letters, digits and `_` that does not begin with a digit.
 pub fn identifier<'a>(doc: &Doc<'a>, item: &Item) -> Result<&'a str, Stop<Unbuilt>>
-    ensures { Answers result (λ word. AreTokens doc.now.source.now doc.now.tokens.now → form.identifier_of doc.now.source.now doc.now.tokens.now item.now ≡ Some word.now) (λ _. AreTokens doc.now.source.now doc.now.tokens.now → form.identifier_of doc.now.source.now doc.now.tokens.now item.now ≡ None) }
+    ensures { Answers result (λ word. form.identifier_of doc.now.source.now doc.now.tokens.now item.now ≡ Some word.now) (λ _. form.identifier_of doc.now.source.now doc.now.tokens.now item.now ≡ None) }
 {
     match item {
         Item::Leaf { token } => {
@@ -72,7 +71,7 @@ fn is_word_byte(b: u8) -> bool
 
 /// The text of a string without a type and a language.
 pub fn plain_text(alloc: Global, doc: &Doc<'_>, item: &Item) -> Result<Text, Stop<Unbuilt>>
-    ensures { Answers result (λ text. AreTokens doc.now.source.now doc.now.tokens.now → form.string_of doc.now.source.now doc.now.tokens.now item.now ≡ Some text) (λ _. AreTokens doc.now.source.now doc.now.tokens.now → form.string_of doc.now.source.now doc.now.tokens.now item.now ≡ None) }
+    ensures { Answers result (λ text. form.string_of doc.now.source.now doc.now.tokens.now item.now ≡ Some text) (λ _. form.string_of doc.now.source.now doc.now.tokens.now item.now ≡ None) }
 {
     match item {
         Item::Str { token, tag } => match tag {
@@ -85,7 +84,7 @@ pub fn plain_text(alloc: Global, doc: &Doc<'_>, item: &Item) -> Result<Text, Sto
 
 // The text of a string's token.
 fn string_text(alloc: Global, doc: &Doc<'_>, token: u32) -> Result<Text, Stop<Unbuilt>>
-    ensures { Answers result (λ text. AreTokens doc.now.source.now doc.now.tokens.now → form.string_at doc.now.source.now (slice_get doc.now.tokens.now token) ≡ Some text) (λ _. AreTokens doc.now.source.now doc.now.tokens.now → form.string_at doc.now.source.now (slice_get doc.now.tokens.now token) ≡ None) }
+    ensures { Answers result (λ text. form.string_at doc.now.source.now (slice_get doc.now.tokens.now token) ≡ Some text) (λ _. form.string_at doc.now.source.now (slice_get doc.now.tokens.now token) ≡ None) }
 {
     match token_at(doc, token) {
         None => Err(Stop::Named(Unbuilt)),

@@ -1,7 +1,6 @@
 //! The one form of a mapping document that is read so far: one table, and one class over its rows.
 ghost use Rattle.std.specs.Prelude.{◌≡◌, ◌≤◌, length, IfOk, None, Some, []};
 ghost use Rattle.mast_terms.specs.Answers.{Answers};
-ghost use Rattle.mast_tree.specs.Source.{AreTokens};
 ghost use Rattle.mast_cli.specs.Columns.{names_of};
 ghost use Rattle.mast_cli.specs.MappingForm as form;
 ghost use Rattle.mast_cli.specs.Mappings.{IsForm};
@@ -38,8 +37,8 @@ pub struct Mapping {
 ///
 /// Unbuilt comes exactly where the document is not of this form.
 pub fn read_mapping(alloc: Global, doc: &Doc<'_>) -> Result<Mapping, Stop<Unbuilt>>
-    ensures form { Answers result (λ mapping. AreTokens doc.now.source.now doc.now.tokens.now → IsForm doc.now.source.now doc.now.tokens.now doc.now.items (form.said mapping)) (λ _. AreTokens doc.now.source.now doc.now.tokens.now → (said : form.Said) → IsForm doc.now.source.now doc.now.tokens.now doc.now.items said → ⊥) }
-    ensures only { IfOk result (λ mapping. AreTokens doc.now.source.now doc.now.tokens.now → (said : form.Said) → IsForm doc.now.source.now doc.now.tokens.now doc.now.items said → said ≡ form.said mapping) }
+    ensures form { Answers result (λ mapping. IsForm doc.now.source.now doc.now.tokens.now doc.now.items (form.said mapping)) (λ _. (said : form.Said) → IsForm doc.now.source.now doc.now.tokens.now doc.now.items said → ⊥) }
+    ensures only { IfOk result (λ mapping. (said : form.Said) → IsForm doc.now.source.now doc.now.tokens.now doc.now.items said → said ≡ form.said mapping) }
     ensures fits { IfOk result FitsTable }
 {
     read_form(alloc, doc)
@@ -48,7 +47,7 @@ pub fn read_mapping(alloc: Global, doc: &Doc<'_>) -> Result<Mapping, Stop<Unbuil
 // The same, read item by item.
 #[tactic(auto, using(mast_tree::proofs::PrologueLemmas::prologue_value))]
 fn read_form(alloc: Global, doc: &Doc<'_>) -> Result<Mapping, Stop<Unbuilt>>
-    ensures form { Answers result (λ mapping. AreTokens doc.now.source.now doc.now.tokens.now → form_of doc.now.source.now doc.now.tokens.now doc.now.items ≡ Some (form.said mapping)) (λ _. AreTokens doc.now.source.now doc.now.tokens.now → form_of doc.now.source.now doc.now.tokens.now doc.now.items ≡ None) }
+    ensures form { Answers result (λ mapping. form_of doc.now.source.now doc.now.tokens.now doc.now.items ≡ Some (form.said mapping)) (λ _. form_of doc.now.source.now doc.now.tokens.now doc.now.items ≡ None) }
     ensures fits { IfOk result FitsTable }
 {
     let prefixes = match prefixes(alloc, doc, "Mappings") {
@@ -66,7 +65,7 @@ fn read_form(alloc: Global, doc: &Doc<'_>) -> Result<Mapping, Stop<Unbuilt>>
 
 // The items of the last of these, a `Mappings` node, before which `Prefix` nodes stand alone.
 fn main_items<'d>(doc: &Doc<'_>, items: &'d [Item]) -> Result<&'d [Item], Stop<Unbuilt>>
-    ensures { Answers result (λ main. AreTokens doc.now.source.now doc.now.tokens.now → form.main_of doc.now.source.now doc.now.tokens.now items.now ≡ Some main.now) (λ _. AreTokens doc.now.source.now doc.now.tokens.now → form.main_of doc.now.source.now doc.now.tokens.now items.now ≡ None) }
+    ensures { Answers result (λ main. form.main_of doc.now.source.now doc.now.tokens.now items.now ≡ Some main.now) (λ _. form.main_of doc.now.source.now doc.now.tokens.now items.now ≡ None) }
 {
     let mut left = items.len();
     for item in items {
@@ -86,7 +85,7 @@ fn read_pair(
     prefixes: &PrefixTable,
     items: &[Item],
 ) -> Result<Mapping, Stop<Unbuilt>>
-    ensures form { Answers result (λ mapping. AreTokens doc.now.source.now doc.now.tokens.now → form.pair_in doc.now.source.now doc.now.tokens.now prefixes.now items.now ≡ Some (form.said mapping)) (λ _. AreTokens doc.now.source.now doc.now.tokens.now → form.pair_in doc.now.source.now doc.now.tokens.now prefixes.now items.now ≡ None) }
+    ensures form { Answers result (λ mapping. form.pair_in doc.now.source.now doc.now.tokens.now prefixes.now items.now ≡ Some (form.said mapping)) (λ _. form.pair_in doc.now.source.now doc.now.tokens.now prefixes.now items.now ≡ None) }
     ensures fits { IfOk result FitsTable }
 {
     match items {
@@ -103,7 +102,7 @@ fn read_both(
     table: &Item,
     map: &Item,
 ) -> Result<Mapping, Stop<Unbuilt>>
-    ensures form { Answers result (λ mapping. AreTokens doc.now.source.now doc.now.tokens.now → form.pair_of doc.now.source.now doc.now.tokens.now prefixes.now table.now map.now ≡ Some (form.said mapping)) (λ _. AreTokens doc.now.source.now doc.now.tokens.now → form.pair_of doc.now.source.now doc.now.tokens.now prefixes.now table.now map.now ≡ None) }
+    ensures form { Answers result (λ mapping. form.pair_of doc.now.source.now doc.now.tokens.now prefixes.now table.now map.now ≡ Some (form.said mapping)) (λ _. form.pair_of doc.now.source.now doc.now.tokens.now prefixes.now table.now map.now ≡ None) }
     ensures fits { IfOk result FitsTable }
 {
     let table = read_table(alloc, doc, node(doc, table, "Table")?)?;
@@ -118,7 +117,7 @@ fn read_map(
     table: Declared,
     items: &[Item],
 ) -> Result<Mapping, Stop<Unbuilt>>
-    ensures form { Answers result (λ mapping. AreTokens doc.now.source.now doc.now.tokens.now → form.map_in doc.now.source.now doc.now.tokens.now prefixes.now table items.now ≡ Some (form.said mapping)) (λ _. AreTokens doc.now.source.now doc.now.tokens.now → form.map_in doc.now.source.now doc.now.tokens.now prefixes.now table items.now ≡ None) }
+    ensures form { Answers result (λ mapping. form.map_in doc.now.source.now doc.now.tokens.now prefixes.now table items.now ≡ Some (form.said mapping)) (λ _. form.map_in doc.now.source.now doc.now.tokens.now prefixes.now table items.now ≡ None) }
     ensures fits { IfOk result FitsTable }
 {
     match items {
@@ -136,7 +135,7 @@ fn read_selected(
     query: &Item,
     head: &Item,
 ) -> Result<Mapping, Stop<Unbuilt>>
-    ensures form { Answers result (λ mapping. AreTokens doc.now.source.now doc.now.tokens.now → form.map_of doc.now.source.now doc.now.tokens.now prefixes.now table query.now head.now ≡ Some (form.said mapping)) (λ _. AreTokens doc.now.source.now doc.now.tokens.now → form.map_of doc.now.source.now doc.now.tokens.now prefixes.now table query.now head.now ≡ None) }
+    ensures form { Answers result (λ mapping. form.map_of doc.now.source.now doc.now.tokens.now prefixes.now table query.now head.now ≡ Some (form.said mapping)) (λ _. form.map_of doc.now.source.now doc.now.tokens.now prefixes.now table query.now head.now ≡ None) }
     ensures fits { IfOk result FitsTable }
 {
     let query = plain_text(alloc, doc, query)?;
@@ -154,7 +153,7 @@ fn read_head(
     selected: &IndexSet<u32>,
     items: &[Item],
 ) -> Result<Mapping, Stop<Unbuilt>>
-    ensures form { Answers result (λ mapping. AreTokens doc.now.source.now doc.now.tokens.now → form.head_in doc.now.source.now doc.now.tokens.now prefixes.now table selected.now.keys items.now ≡ Some (form.said mapping)) (λ _. AreTokens doc.now.source.now doc.now.tokens.now → form.head_in doc.now.source.now doc.now.tokens.now prefixes.now table selected.now.keys items.now ≡ None) }
+    ensures form { Answers result (λ mapping. form.head_in doc.now.source.now doc.now.tokens.now prefixes.now table selected.now.keys items.now ≡ Some (form.said mapping)) (λ _. form.head_in doc.now.source.now doc.now.tokens.now prefixes.now table selected.now.keys items.now ≡ None) }
     ensures fits { IfOk result FitsTable }
 {
     match items {
@@ -174,7 +173,7 @@ fn class_iri(
     prefixes: &PrefixTable,
     item: &Item,
 ) -> Result<Text, Stop<Unbuilt>>
-    ensures { Answers result (λ iri. AreTokens doc.now.source.now doc.now.tokens.now → form.class_of doc.now.source.now doc.now.tokens.now prefixes.now item.now ≡ Some iri) (λ _. AreTokens doc.now.source.now doc.now.tokens.now → form.class_of doc.now.source.now doc.now.tokens.now prefixes.now item.now ≡ None) }
+    ensures { Answers result (λ iri. form.class_of doc.now.source.now doc.now.tokens.now prefixes.now item.now ≡ Some iri) (λ _. form.class_of doc.now.source.now doc.now.tokens.now prefixes.now item.now ≡ None) }
 {
     match prefixes.expand(alloc, doc, item) {
         Ok(iri) => {
@@ -207,7 +206,7 @@ fn read_object(
     class: Text,
     items: &[Item],
 ) -> Result<Mapping, Stop<Unbuilt>>
-    ensures form { Answers result (λ mapping. AreTokens doc.now.source.now doc.now.tokens.now → form.object_in doc.now.source.now doc.now.tokens.now table selected.now.keys class items.now ≡ Some (form.said mapping)) (λ _. AreTokens doc.now.source.now doc.now.tokens.now → form.object_in doc.now.source.now doc.now.tokens.now table selected.now.keys class items.now ≡ None) }
+    ensures form { Answers result (λ mapping. form.object_in doc.now.source.now doc.now.tokens.now table selected.now.keys class items.now ≡ Some (form.said mapping)) (λ _. form.object_in doc.now.source.now doc.now.tokens.now table selected.now.keys class items.now ≡ None) }
     ensures fits { IfOk result FitsTable }
 {
     match items {
@@ -234,7 +233,7 @@ fn read_slots(
     table: &Declared,
     selected: &IndexSet<u32>,
 ) -> Result<Vec<u32>, Stop<Unbuilt>>
-    ensures value { Answers result (λ slots. AreTokens doc.now.source.now doc.now.tokens.now → form.slots_after doc.now.source.now doc.now.tokens.now (names_of table.now.columns) selected.now.keys [] items.now ≡ Some slots.items) (λ _. AreTokens doc.now.source.now doc.now.tokens.now → form.slots_after doc.now.source.now doc.now.tokens.now (names_of table.now.columns) selected.now.keys [] items.now ≡ None) }
+    ensures value { Answers result (λ slots. form.slots_after doc.now.source.now doc.now.tokens.now (names_of table.now.columns) selected.now.keys [] items.now ≡ Some slots.items) (λ _. form.slots_after doc.now.source.now doc.now.tokens.now (names_of table.now.columns) selected.now.keys [] items.now ≡ None) }
     ensures fits { IfOk result (λ slots. AreColumns (length table.now.columns) slots.items) }
 {
     let mut slots = Vec::new(alloc);
@@ -256,7 +255,7 @@ fn slot_number(
     table: &Declared,
     selected: &IndexSet<u32>,
 ) -> Result<u32, Stop<Unbuilt>>
-    ensures value { Answers result (λ number. AreTokens doc.now.source.now doc.now.tokens.now → form.slot_of doc.now.source.now doc.now.tokens.now (names_of table.now.columns) selected.now.keys item.now ≡ Some number) (λ _. AreTokens doc.now.source.now doc.now.tokens.now → form.slot_of doc.now.source.now doc.now.tokens.now (names_of table.now.columns) selected.now.keys item.now ≡ None) }
+    ensures value { Answers result (λ number. form.slot_of doc.now.source.now doc.now.tokens.now (names_of table.now.columns) selected.now.keys item.now ≡ Some number) (λ _. form.slot_of doc.now.source.now doc.now.tokens.now (names_of table.now.columns) selected.now.keys item.now ≡ None) }
     ensures within { IfOk result (λ number. (1 ≤ number) × (number ≤ length table.now.columns)) }
 {
     let name = identifier(doc, item)?;
