@@ -1,1 +1,5 @@
+pub mod Columns
+pub mod OverTables
+pub mod Queries
+pub mod Readings
 pub mod Split
