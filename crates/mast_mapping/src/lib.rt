@@ -5,8 +5,10 @@
 #![tactic(auto)]
 
 mod copies;
+mod laws;
 mod map;
 mod split_map;
 
+pub use laws::reading_law;
 pub use map::{Head, Map, Mappings, Slot, Template};
 pub use split_map::{SplitMap, split};

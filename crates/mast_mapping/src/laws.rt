@@ -1,0 +1,7 @@
+//! What the definitions promise by themselves: laws, which no code calls.
+ghost use Rattle.mast_mapping.specs.Readings.{ReadingLaw};
+
+/// Each text is one source query or has one first breach, and not both.
+pub fn reading_law()
+    ensures { ReadingLaw }
+{}
