@@ -3,3 +3,4 @@ pub mod OverTables
 pub mod Queries
 pub mod Readings
 pub mod Split
+pub mod inside

@@ -1,5 +1,5 @@
 -- What is wrong with a source query, by the tables that are declared before it.
-use Rattle.std.specs.Prelude.{ℕ, if◌then◌else◌, List, [], ◌∷◌, Option, Some, None}
+use Rattle.std.specs.Prelude.{ℕ, if◌then◌else◌, List, [], ◌∷◌, ◌++◌, Option, Some, None}
 use Rattle.std.specs.Option.{option_or, option_map, is_some}
 use Rattle.mast_terms.specs.declared.value.Kind.{Kind}
 use Rattle.mast_terms.specs.declared.value.Kind.TheVariants as kind
@@ -30,14 +30,14 @@ abbrev pub from_breach : List TableDecl → List (List ℕ) → List FromEntry �
 from_breach tables before [] = None
 from_breach tables before (entry ∷ entries) =
     unless_there shape.UnknownTable (table_named entry.table tables)
-    (option_or (double_breach entry.alias before) (from_breach tables (entry.alias ∷ before) entries))
+    (option_or (double_breach entry.alias before) (from_breach tables (before ++ entry.alias ∷ []) entries))
 
 -- the items in order: the column, then the output, where these outputs stand before
 abbrev pub items_breach : List TableDecl → List FromEntry → List (List ℕ) → List SelectItem → Option ShapeKind
 items_breach tables from before [] = None
 items_breach tables from before (item ∷ items) =
     unless_there shape.UnknownColumn (meaning_of tables from item.alias item.column)
-    (option_or (double_breach item.output before) (items_breach tables from (item.output ∷ before) items))
+    (option_or (double_breach item.output before) (items_breach tables from (before ++ item.output ∷ []) items))
 
 -- the kind of a side of a comparison; none where its column means nothing
 abbrev pub operand_kind : List TableDecl → List FromEntry → Operand → Option Kind

@@ -4,6 +4,7 @@
 //! It must not know of facts and rows, of axioms and constraints, nor how a refusal is printed.
 #![tactic(auto)]
 
+mod columns;
 mod copies;
 mod laws;
 mod map;

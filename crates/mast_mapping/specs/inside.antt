@@ -1,0 +1,2 @@
+-- What private functions alone cite: the kinds of columns.
+pub mod Kinds
