@@ -12,7 +12,7 @@ pub struct Mappings {
     pub maps: List<Map>,
 }
 
-/// A source query, and what each choice of rows that meets it gives. The line is that of the map.
+/// A source query, and what each choice of rows that meets it gives. The line is that of the query's string.
 #[derive(Debug, Drop)]
 pub struct Map {
     pub line: u32,
