@@ -9,11 +9,11 @@ use Rattle.mast_terms.specs.Printed.{date_text}
 use Rattle.mast_terms.specs.declared.date.Date.{Date}
 use Rattle.mast_terms.specs.declared.value.Value.{Value}
 use Rattle.mast_terms.specs.declared.value.Value.TheVariants as v
-use Rattle.mast_tree.specs.declared.document.Doc.{Doc}
 use Rattle.mast_tree.specs.declared.shape.ShapeBreach.{ShapeBreach}
 use Rattle.mast_tree.specs.declared.shape.ShapeKind.TheVariants.{BadConstant}
 use Rattle.mast_tree.specs.Prefixes.{shape_at}
 use Rattle.mast_tree.specs.Said.{Said, name, iri, text, tagged, binding, node, line, said}
+use Rattle.mast_tree.specs.Seen.{Document}
 
 -- an ASCII letter, a digit or `_`
 abbrev pub is_word_byte : ℕ → Bool
@@ -82,6 +82,6 @@ constant_in dates word at (only ∷ []) =
 constant_in dates word at _ = Err (shape_at at)
 
 -- the constant that an item of a document says, or its breach: `Int(NUMBER)`, `Text("TEXT")` or `Date("YYYY-MM-DD")`
-abbrev pub constant_of : (List ℕ → Option Date) → Doc → Said → Result Value ShapeBreach
+abbrev pub constant_of : (List ℕ → Option Date) → Document → Said → Result Value ShapeBreach
 constant_of dates doc (node word at items) = constant_in dates word at (map (said doc) items)
 constant_of dates doc other = Err (shape_at (line other))

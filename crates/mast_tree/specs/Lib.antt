@@ -15,3 +15,7 @@ pub mod Judgements
 pub mod Layers
 pub mod Names
 pub mod Constants
+pub mod MainNode
+pub mod Judged
+pub mod Growing
+pub mod Seen

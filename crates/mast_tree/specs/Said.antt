@@ -1,10 +1,10 @@
 -- What an item says. Readers of documents and their definitions speak of words and lines, and not of tokens.
 use Rattle.std.specs.Prelude.{ℕ, List, Option, Some, None}
-use Rattle.mast_tree.specs.declared.document.Doc.{Doc}
 use Rattle.mast_tree.specs.declared.item.Item.{Item, out-Item}
 use Rattle.mast_tree.specs.declared.item.Item.TheOpen.{Item-F}
 use Rattle.mast_tree.specs.declared.token.Token.{Token}
 use Rattle.mast_tree.specs.Words.{word_of, text_of, line_of}
+use Rattle.mast_tree.specs.Seen.{Document}
 
 -- a name alone, an IRI alone, a string without a type and a language, a string with one, a binding, or a node and the items inside it;
 -- each with the line of its first token
@@ -30,8 +30,8 @@ said_in source tokens (Item-F.Bind t value) = binding (line_of tokens t)
 said_in source tokens (Item-F.Node t items) = node (word_of source tokens t) (line_of tokens t) items
 
 -- what an item of a document says
-abbrev pub said : Doc → Item → Said
-said doc item = said_in doc.source.now doc.tokens.now (out-Item item)
+abbrev pub said : Document → Item → Said
+said doc item = said_in doc.source doc.tokens (out-Item item)
 
 -- the line of what is said
 abbrev pub line : Said → ℕ

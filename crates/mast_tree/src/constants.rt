@@ -5,6 +5,7 @@ ghost use Rattle.mast_tree.specs.Constants as spec;
 ghost use Rattle.mast_tree.specs.Layers.{shown};
 ghost use Rattle.mast_tree.specs.Results.{Gives};
 ghost use Rattle.mast_tree.specs.Said.{said};
+ghost use Rattle.mast_tree.specs.Seen.{seen};
 
 use crate::prefix::{first_token, shape};
 use crate::{Doc, Item, Layer, ShapeBreach, ShapeKind};
@@ -54,7 +55,8 @@ impl<'a> Doc<'a> {
     /// The identifier that an item of this document is: ASCII letters, digits and `_`, not beginning with a digit. Every other
     /// item is a Shape breach at its line.
     pub fn identifier(&self, item: &Item) -> Result<&'a str, ShapeBreach>
-        ensures { MatchResult result (λ word. spec.identifier_of (said self.now item.now) ≡ Ok word.now) (λ breach. spec.identifier_of (said self.now item.now) ≡ Err breach) }
+        ensures { let identifier = spec.identifier_of (said (seen self.now) item.now) in
+            MatchResult result (λ word. identifier ≡ Ok word.now) (λ breach. identifier ≡ Err breach) }
     {
         match self.layer(item) {
             Layer::Name { word, line } if is_identifier(word.as_bytes()) => Ok(word),
@@ -70,7 +72,7 @@ impl<'a> Doc<'a> {
     /// Another form is a Shape breach: at the node's line where its word or its number of items is another, else at the line of its
     /// item. A number or a date that no cell of a table would be is BadConstant at the line of its item.
     pub fn constant(&self, alloc: Global, item: &Item) -> Result<Value, Stop<ShapeBreach>>
-        ensures { (dates : List ℕ → Option ADate) → spec.AreDates dates → Gives result (spec.constant_of dates self.now (said self.now item.now)) }
+        ensures { (dates : List ℕ → Option ADate) → spec.AreDates dates → Gives result (spec.constant_of dates (seen self.now) (said (seen self.now) item.now)) }
     {
         match self.layer(item) {
             Layer::Node { word, line, items } => match items {
@@ -89,7 +91,7 @@ impl<'a> Doc<'a> {
         line: u32,
         only: &Item,
     ) -> Result<Value, Stop<ShapeBreach>>
-        ensures { (dates : List ℕ → Option ADate) → spec.AreDates dates → Gives result (spec.constant_in dates word.now line (said self.now only.now ∷ [])) }
+        ensures { (dates : List ℕ → Option ADate) → spec.AreDates dates → Gives result (spec.constant_in dates word.now line (said (seen self.now) only.now ∷ [])) }
     {
         if word == "Int" {
             self.integer(only)
@@ -104,7 +106,7 @@ impl<'a> Doc<'a> {
 
     // A name that is an integer.
     fn integer(&self, item: &Item) -> Result<Value, Stop<ShapeBreach>>
-        ensures { Gives result (spec.integer_said (said self.now item.now)) }
+        ensures { Gives result (spec.integer_said (said (seen self.now) item.now)) }
     {
         match self.layer(item) {
             Layer::Name { word, line } => match read_int(word.as_bytes()) {
@@ -117,7 +119,7 @@ impl<'a> Doc<'a> {
 
     // A string as a value.
     fn plain_text(&self, alloc: Global, item: &Item) -> Result<Value, Stop<ShapeBreach>>
-        ensures { Gives result (spec.text_said (said self.now item.now)) }
+        ensures { Gives result (spec.text_said (said (seen self.now) item.now)) }
     {
         match self.layer(item) {
             Layer::Text { token, .. } => Ok(Value::Text(self.text(alloc, token)?)),
@@ -127,7 +129,7 @@ impl<'a> Doc<'a> {
 
     // A string that is a date.
     fn date(&self, alloc: Global, item: &Item) -> Result<Value, Stop<ShapeBreach>>
-        ensures { (dates : List ℕ → Option ADate) → spec.AreDates dates → Gives result (spec.date_said dates (said self.now item.now)) }
+        ensures { (dates : List ℕ → Option ADate) → spec.AreDates dates → Gives result (spec.date_said dates (said (seen self.now) item.now)) }
     {
         match self.layer(item) {
             Layer::Text { token, line } => {

@@ -2,6 +2,7 @@
 ghost use Rattle.std.specs.Prelude.{◌≡◌};
 ghost use Rattle.mast_tree.specs.Layers.{shown};
 ghost use Rattle.mast_tree.specs.Said.{said};
+ghost use Rattle.mast_tree.specs.Seen.{seen};
 
 use crate::{Doc, Item};
 
@@ -42,7 +43,7 @@ pub enum Layer<'a, 'd> {
 impl<'a> Doc<'a> {
     /// What an item of this document says.
     pub fn layer<'d>(&self, item: &'d Item) -> Layer<'a, 'd>
-        ensures { shown self.now result ≡ said self.now item.now }
+        ensures { shown (seen self.now) result ≡ said (seen self.now) item.now }
     {
         match item {
             Item::Leaf { token } => Layer::Name {

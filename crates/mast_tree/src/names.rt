@@ -1,7 +1,7 @@
 //! The names that a document uses, as they are added to a vocabulary.
 ghost use Rattle.std.specs.Prelude.{◌≡◌};
-ghost use Rattle.mast_tree.specs.Judgements.{Judges};
-ghost use Rattle.mast_tree.specs.Names.{is_standard, name_judged, IsName};
+ghost use Rattle.mast_tree.specs.Names.{is_standard, JudgesName};
+ghost use Rattle.mast_tree.specs.Seen.{seen};
 
 use crate::prefix::{first_token, shape};
 use crate::{Doc, Item, PrefixTable, ShapeBreach, ShapeKind};
@@ -31,7 +31,7 @@ impl PrefixTable {
         kind: NameKind,
         vocab: &mut Vocabulary,
     ) -> Result<Name, Stop<ShapeBreach>>
-        ensures { Judges vocab.old (name_judged kind doc.now self.now item.now) vocab.new (IsName vocab.new kind doc.now self.now item.now) result }
+        ensures { JudgesName vocab.old kind (seen doc.now) self.now item.now vocab.new result }
     {
         let iri = self.expand(alloc, doc, item)?;
         let line = doc.line(first_token(item));
