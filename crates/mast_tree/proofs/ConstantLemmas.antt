@@ -2,7 +2,7 @@
 use Rattle.std.proofs.Common.{◌≡◌, refl, sym, ap, ◌∙◌, ℕ, List}
 use Rattle.std.specs.Prelude.{Option, Some, None}
 use Rattle.mast_terms.specs.DateCell.{IsDateText}
-use Rattle.mast_terms.specs.Printed.{date_text, term_text}
+use Rattle.mast_terms.specs.Printed.{date_text}
 use Rattle.mast_terms.specs.declared.date.Date.{Date}
 use Rattle.mast_terms.specs.declared.term.Term.TheVariants as t
 use Rattle.mast_terms.specs.declared.value.Value.TheVariants as v

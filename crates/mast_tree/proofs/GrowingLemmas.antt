@@ -5,11 +5,9 @@ use Rattle.std.proofs.lemmas.List.{append-nil}
 use Rattle.mast_terms.specs.declared.name.Name.{Name}
 use Rattle.mast_terms.specs.declared.name.NameKind.{NameKind}
 use Rattle.mast_terms.specs.declared.name.NameKind.TheVariants as kinds
-use Rattle.mast_terms.specs.declared.value.Value.{Value}
-use Rattle.mast_terms.specs.Vocabularies.{Lists, iris, stands, joined, with_iri, value_stands, joined_value}
+use Rattle.mast_terms.specs.Vocabularies.{Lists, iris, stands, with_iri, value_stands}
 use Rattle.mast_tree.specs.Seen.{Document}
 use Rattle.mast_tree.specs.declared.item.Item.{Item}
-use Rattle.mast_tree.specs.declared.shape.ShapeKind.{ShapeKind}
 use Rattle.mast_tree.specs.Growing.{BeginsWith, Begins}
 use Rattle.mast_tree.specs.Judgements.{Judgement, uses, numbers, breaks, after_one, after, AreRight}
 use Rattle.mast_tree.specs.Names.{IsName}

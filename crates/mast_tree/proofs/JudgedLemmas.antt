@@ -1,11 +1,11 @@
 -- A document is right, or has a first breach, and each in one way.
-use Rattle.std.proofs.Common.{◌≡◌, ◌⊎◌, inl, inr, refl, ap, sym, ◌∙◌, ⊤, tt, List, ◌++◌}
-use Rattle.std.specs.Prelude.{Option, Some, None}
+use Rattle.std.proofs.Common.{◌≡◌, ◌⊎◌, inl, inr, refl, ap, sym, ◌∙◌, ℕ, List, ◌++◌}
+use Rattle.std.specs.Prelude.{⊤, Option, Some, None}
 use Rattle.mast_terms.specs.Vocabularies.{Lists}
 use Rattle.mast_tree.specs.declared.item.Item.{Item}
 use Rattle.mast_tree.specs.declared.shape.ShapeBreach.{ShapeBreach}
-use Rattle.mast_tree.specs.Judged.{after_judged, Judging, IsRight, IsInnerBreach, IsFirstBreach}
-use Rattle.mast_tree.specs.Judgements.{Judgement, first_breach, after, AreRight}
+use Rattle.mast_tree.specs.Judged.{after_judged, Judging, IsRight, IsFirstBreach}
+use Rattle.mast_tree.specs.Judgements.{Judgement, first_breach, after}
 use Rattle.mast_tree.specs.Laws.{HasOnePrologue}
 use Rattle.mast_tree.specs.MainNode.{Prefixes, HasParts}
 use Rattle.mast_tree.specs.Prologue.{IsPrologue, IsPrologueBreach}
@@ -34,10 +34,10 @@ pub one_prefixes : (doc : Document) (word : List ℕ) (p q : Prefixes) (i j a b 
 one_prefixes doc word p q i j a b h k = (one_prologue doc word).one_table p q h.prologue k.prologue
 
 -- and so are the inside of its main node and what follows
-pub one_inside : (doc : Document) (word : List ℕ) (p q : Prefixes) (i j a b : List Item) → HasParts doc word p i a → HasParts doc word q j b → (i, a) ≡ (j, b)
+pub one_inside : (doc : Document) (word : List ℕ) (p q : Prefixes) (i j a b : List Item) → HasParts doc word p i a → HasParts doc word q j b → ◌≡◌ {A = List Item × List Item} (i, a) (j, b)
 one_inside doc word p q i j a b h k = pair_in (i, a) (j, b) (sym h.main ∙ k.main)
 
-same_whole : (doc : Document) (judged : Judging) (p q : Prefixes) (i j a b : List Item) → p ≡ q → (i, a) ≡ (j, b) → whole doc judged p i a ≡ whole doc judged q j b
+same_whole : (doc : Document) (judged : Judging) (p q : Prefixes) (i j a b : List Item) → p ≡ q → ◌≡◌ {A = List Item × List Item} (i, a) (j, b) → whole doc judged p i a ≡ whole doc judged q j b
 same_whole doc judged p q i j a b e f = ap (λ x. whole doc judged x i a) e ∙ ap (λ (x : List Item × List Item). whole doc judged q x.0 x.1) f
 
 one_whole : (doc : Document) (word : List ℕ) (judged : Judging) (p q : Prefixes) (i j a b : List Item) → HasParts doc word p i a → HasParts doc word q j b → whole doc judged p i a ≡ whole doc judged q j b
@@ -46,14 +46,17 @@ one_whole doc word judged p q i j a b h k = same_whole doc judged p q i j a b (o
 by_breach : (doc : Document) (word : List ℕ) (judged : Judging) (old : Lists) (p : Prefixes) (i a : List Item) → HasParts doc word p i a
     → (first : Option ShapeBreach) → first_breach old (whole doc judged p i a) ≡ first
     → ((new : Lists) × IsRight doc word judged old new (λ x y. ⊤)) ⊎ ((breach : ShapeBreach) × IsFirstBreach doc word judged old breach)
-by_breach doc word judged old p i a h None e = inl (after old (whole doc judged p i a), record {
-  prefixes = p;
-  inside = i;
-  after = a;
-  parts = h;
-  right = record { none = e; then = refl };
-  gives = tt;
-})
+by_breach doc word judged old p i a h None e = inl (
+  after old (whole doc judged p i a),
+  record {
+    prefixes = p;
+    inside = i;
+    after = a;
+    parts = h;
+    right = record { none = e; then = refl };
+    gives = tt;
+  },
+)
 by_breach doc word judged old p i a h (Some breach) e = inr (breach, inr (record { prefixes = p; inside = i; after = a; parts = h; first = e }))
 
 by_prologue : (doc : Document) (word : List ℕ) (judged : Judging) (old : Lists)
@@ -61,7 +64,7 @@ by_prologue : (doc : Document) (word : List ℕ) (judged : Judging) (old : Lists
     → ((new : Lists) × IsRight doc word judged old new (λ x y. ⊤)) ⊎ ((breach : ShapeBreach) × IsFirstBreach doc word judged old breach)
 by_prologue doc word judged old (inl p) =
     by_breach doc word judged old p.0 p.1.inside p.1.after (record { prologue = p.1; main = main_is_found doc word p.0 p.1 })
-      (first_breach old (whole doc judged p.0 p.1.inside p.1.after)) refl
+    (first_breach old (whole doc judged p.0 p.1.inside p.1.after)) refl
 by_prologue doc word judged old (inr b) = inr (b.0, inl b.1)
 
 -- a document is right or has a first breach

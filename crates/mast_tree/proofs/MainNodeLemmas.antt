@@ -1,5 +1,5 @@
 -- A prologue has a main node: the items before it are other, and it is found.
-use Rattle.std.proofs.Common.{◌≡◌, refl, ap, sym, ◌∙◌, subst, ℕ, Bool, true, false, if◌then◌else◌, List, [], ◌∷◌, ◌++◌}
+use Rattle.std.proofs.Common.{◌≡◌, refl, ap, ◌∙◌, ℕ, Bool, true, false, if◌then◌else◌, List, [], ◌∷◌, ◌++◌}
 use Rattle.std.specs.Prelude.{Option, Some, None}
 use Rattle.std.specs.Str.{bytes_eq}
 use Rattle.std.proofs.lemmas.Slice.Eq.{bytes_eq-Decides}
@@ -7,9 +7,9 @@ use Rattle.mast_tree.specs.Seen.{Document}
 use Rattle.mast_tree.specs.declared.item.Item.{Item, out-Item}
 use Rattle.mast_tree.specs.declared.item.Item.TheOpen.{Item-F}
 use Rattle.mast_tree.specs.declared.token.Token.{Token}
-use Rattle.mast_tree.specs.MainNode.{main_here, main_node, HasParts}
+use Rattle.mast_tree.specs.MainNode.{main_here, main_node}
 use Rattle.mast_tree.specs.Prologue.{IsNode, IsOther, ArePrefixNodes, IsPrologue}
-use Rattle.mast_tree.specs.Said.{said, said_in, string_said}
+use Rattle.mast_tree.specs.Said.{said_in, string_said}
 use Rattle.mast_tree.specs.Words.{word_of, text_of, line_of}
 
 -- what a test of two words chooses
@@ -19,7 +19,7 @@ chosen_other false name word one other h apart = refl
 
 chosen_same : {A : Type 0} (is : Bool) (name word : List ℕ) (one other : A) → bytes_eq name word ≡ is → name ≡ word → (if is then one else other) ≡ one
 chosen_same true name word one other h same = refl
-chosen_same false name word one other h same = let apart = (bytes_eq-Decides name word).1 h in cc
+chosen_same false name word one other h same = let is = (bytes_eq-Decides name word).1 same in cc
 
 string_passes : (word : List ℕ) (after : List Item) (later : Option (List Item × List Item)) (chars : List ℕ) (at : ℕ) (tag : Option ℕ) → main_here word after later (string_said chars at tag) ≡ later
 string_passes word after later chars at None = refl

@@ -12,7 +12,7 @@ use Rattle.mast_terms.specs.declared.value.Value.TheVariants as v
 use Rattle.mast_tree.specs.declared.shape.ShapeBreach.{ShapeBreach}
 use Rattle.mast_tree.specs.declared.shape.ShapeKind.TheVariants.{BadConstant}
 use Rattle.mast_tree.specs.Prefixes.{shape_at}
-use Rattle.mast_tree.specs.Said.{Said, name, iri, text, tagged, binding, node, line, said}
+use Rattle.mast_tree.specs.Said.{Said, name, text, node, line, said}
 use Rattle.mast_tree.specs.Seen.{Document}
 
 -- an ASCII letter, a digit or `_`

@@ -4,7 +4,7 @@ use Rattle.std.specs.Str.{bytes_eq}
 use Rattle.mast_tree.specs.declared.item.Item.{Item}
 use Rattle.mast_tree.specs.declared.shape.ShapeBreach.{ShapeBreach}
 use Rattle.mast_tree.specs.Prologue.{IsPrologue, IsPrologueBreach}
-use Rattle.mast_tree.specs.Said.{Said, name, iri, text, tagged, binding, node, said}
+use Rattle.mast_tree.specs.Said.{Said, node, said}
 use Rattle.mast_tree.specs.Seen.{Document}
 
 -- prefixes without their colons, each with what it stands for
@@ -13,7 +13,7 @@ Prefixes = List (List ℕ × List ℕ)
 
 -- the items inside a node with the word and those after it, or else what is found later
 abbrev pub main_here : List ℕ → List Item → Option (List Item × List Item) → Said → Option (List Item × List Item)
-main_here word after later (node name at inside) = if bytes_eq name word then Some (inside, after) else later
+main_here word after later (node named at inside) = if bytes_eq named word then Some (inside, after) else later
 main_here word after later other = later
 
 -- the items inside the first node with the word, and those after it

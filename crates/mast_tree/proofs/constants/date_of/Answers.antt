@@ -1,5 +1,5 @@
 -- The date of a text is the one that was read, and a text of which none was read has none.
-use Rattle.std.proofs.Common.{◌≡◌, ap, sym, ◌∙◌}
+use Rattle.std.proofs.Common.{ap, sym, ◌∙◌}
 use Rattle.mast_tree.specs.Constants.{date_in}
 use Rattle.mast_tree.proofs.ConstantLemmas.{date_is, date_none}
 use Rattle.mast_tree.proofs.constants.date_of.Goals as goal
