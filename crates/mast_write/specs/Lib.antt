@@ -1,0 +1,7 @@
+pub mod FactLines
+pub mod Laws
+pub mod LineText
+pub mod RefusalLines
+pub mod Usage
+pub mod Written
+pub mod inside
