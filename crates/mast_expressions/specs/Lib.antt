@@ -1,0 +1,5 @@
+pub mod Pages
+pub mod Judged
+pub mod Given
+pub mod Reads
+pub mod inside
