@@ -1,5 +1,5 @@
 -- The kinds of the columns of a name are those of what the name means.
-use Rattle.std.proofs.Common.{◌≡◌, ℕ, ◌+◌, Bool, true, false, if◌then◌else◌, List, [], ◌∷◌, ◌++◌, map, refl, ap, sym, ◌∙◌}
+use Rattle.std.proofs.Common.{◌≡◌, ℕ, ◌+◌, Bool, true, false, if◌then◌else◌, List, [], ◌∷◌, ◌++◌, map, refl, ap, ◌∙◌}
 use Rattle.std.specs.Prelude.{Option, Some, None}
 use Rattle.std.specs.Option.{option_map, option_to_list}
 use Rattle.std.specs.Str.{bytes_eq}
@@ -8,7 +8,7 @@ use Rattle.mast_sql.specs.declared.query.FromEntry.{FromEntry}
 use Rattle.mast_tables.specs.declared.declaration.Column.{Column}
 use Rattle.mast_tables.specs.declared.declaration.TableDecl.{TableDecl}
 use Rattle.mast_mapping.specs.Columns.{Meaning, table_named, column_named, column_of_table, is_alias, meanings, only, meaning_of}
-use Rattle.mast_mapping.specs.inside.Kinds.{kind_named, kind_of_table, kind_in, kinds}
+use Rattle.mast_mapping.specs.inside.Kinds.{kind_named, kind_of_table, kinds}
 
 kind_chosen : (is : Bool) (m : Meaning) (o : Option Meaning) (k : Option Kind) → option_map (λ (m : Meaning). m.kind) o ≡ k → option_map (λ (m : Meaning). m.kind) (if is then Some m else o) ≡ (if is then Some m.kind else k)
 kind_chosen true m o k h = refl

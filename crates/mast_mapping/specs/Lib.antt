@@ -1,4 +1,9 @@
 pub mod Columns
+pub mod Declarations
+pub mod Documents
+pub mod Heads
+pub mod InRange
+pub mod Maps
 pub mod OverTables
 pub mod Queries
 pub mod Readings

@@ -1,6 +1,6 @@
 -- What is wrong with a source query, by the tables that are declared before it.
 use Rattle.std.specs.Prelude.{ℕ, if◌then◌else◌, List, [], ◌∷◌, ◌++◌, Option, Some, None}
-use Rattle.std.specs.Option.{option_or, option_map, is_some}
+use Rattle.std.specs.Option.{option_or, option_map}
 use Rattle.mast_terms.specs.declared.value.Kind.{Kind}
 use Rattle.mast_terms.specs.declared.value.Kind.TheVariants as kind
 use Rattle.mast_terms.specs.Vocabularies.{stands}
@@ -14,7 +14,7 @@ use Rattle.mast_tables.specs.declared.declaration.TableDecl.{TableDecl}
 use Rattle.mast_tables.specs.Whole.{value_kind}
 use Rattle.mast_tree.specs.declared.shape.ShapeKind.{ShapeKind}
 use Rattle.mast_tree.specs.declared.shape.ShapeKind.TheVariants as shape
-use Rattle.mast_mapping.specs.Columns.{table_named, Meaning, meaning_of}
+use Rattle.mast_mapping.specs.Columns.{table_named, meaning_of}
 
 -- a name that stands before is double
 abbrev pub double_breach : List ℕ → List (List ℕ) → Option ShapeKind

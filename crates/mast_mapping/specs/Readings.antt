@@ -1,5 +1,6 @@
 -- What a text says as a source query: one query, or one breach.
-use Rattle.std.specs.Prelude.{◌≡◌, ◌⊎◌, ℕ, List}
+use Rattle.std.specs.Prelude.{◌≡◌, ◌⊎◌, ℕ, List, Option}
+use Rattle.mast_terms.specs.declared.date.Date.{Date}
 use Rattle.mast_sql.specs.declared.query.SourceQuery.{SourceQuery}
 use Rattle.mast_sql.specs.declared.query.SqlBreach.{SqlBreach}
 use Rattle.mast_sql.specs.declared.query.SqlBreachKind.{SqlBreachKind}
@@ -8,6 +9,7 @@ use Rattle.mast_sql.specs.declared.token.SqlLex.{SqlLex}
 use Rattle.mast_sql.specs.declared.token.SqlToken.{SqlToken}
 use Rattle.mast_sql.specs.Grammar.{IsSourceQuery, IsSqlBreach}
 use Rattle.mast_sql.specs.Source.{AreTokens, IsLexBreach}
+use Rattle.mast_tree.specs.Constants.{AreDates}
 use Rattle.mast_tree.specs.declared.shape.ShapeKind.{ShapeKind}
 use Rattle.mast_tree.specs.declared.shape.ShapeKind.TheVariants as shape
 
@@ -44,3 +46,13 @@ pub record IsReadOnce (text : List ℕ) : Type 0 where
 -- so does each text
 abbrev pub ReadingLaw : Type 0
 ReadingLaw = (text : List ℕ) → IsReadOnce text
+
+-- the date of each text, and what it reads as
+pub record Texts : Type 0 where
+  pub dates : List ℕ → Option Date
+  pub readings : List ℕ → Reading
+
+-- each text has the date that is told of it, or none, and reads as is told
+pub record AreTexts (texts : Texts) : Type 0 where
+  pub dates : AreDates texts.dates
+  pub readings : (text : List ℕ) → Reads text (texts.readings text)

@@ -1,15 +1,23 @@
 //! Mappings: which rows of which tables give members of classes, fillers of roles and values of attributes.
-//! The crates above rest on `split`: it gives one split mapping a head, in order, each with its map's whole source query.
-//! The words of its contracts stand in specs/Split.antt.
+//! The crates above rest on `read_mappings`: it gives the tables and the maps that a document says, or the document's first breach.
+//! In `specs/`, `Documents` has what a document says, `Declarations`, `Maps`, `Queries` and `Heads` its parts, `Split` the split maps.
 //! It must not know of facts and rows, of axioms and constraints, nor how a refusal is printed.
 #![tactic(auto)]
 
-mod columns;
 mod copies;
+mod declarations;
+mod doc_reader;
+mod heads;
+mod kind_index;
 mod laws;
 mod map;
+mod name_index;
+mod reader;
+mod sources;
 mod split_map;
+mod table_index;
 
-pub use laws::reading_law;
+pub use laws::{mappings_law, reading_law};
 pub use map::{Head, Map, Mappings, Slot, Template};
+pub use reader::read_mappings;
 pub use split_map::{SplitMap, split};
