@@ -1,0 +1,15 @@
+pub mod AddingLemmas
+pub mod LeadLemmas
+pub mod KeptLemmas
+pub mod StatingLemmas
+pub mod NumberedLemmas
+pub mod KnownLemmas
+pub mod OneAxiomLemmas
+pub mod FoundAxiomLemmas
+pub mod LawLemmas
+pub mod WholeLemmas
+pub mod ConstantLemmas
+pub mod InsideLemmas
+pub mod ReadingLemmas
+pub mod OpeningLemmas
+pub mod OutcomeLemmas

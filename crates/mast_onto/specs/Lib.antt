@@ -1,0 +1,10 @@
+pub mod Lists
+pub mod Forms
+pub mod Nodes
+pub mod Rights
+pub mod Stated
+pub mod Axioms
+pub mod Numbered
+pub mod Ontologies
+pub mod Known
+pub mod inside

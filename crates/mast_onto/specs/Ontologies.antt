@@ -1,0 +1,123 @@
+-- Ontologies: what a document states, its items within the limit, and its first breach.
+use Rattle.std.specs.Prelude.{◌≡◌, ◌⊎◌, ◌+◌, ◌<◌, ◌≤◌, ℕ, Bool, true, false, if◌then◌else◌, List, [], ◌∷◌, ◌++◌, length, Some, None, codes}
+use Rattle.mast_terms.specs.Vocabularies.{Lists}
+use Rattle.mast_tbox.specs.declared.axiom.Lined.{Lined}
+use Rattle.mast_tbox.specs.declared.tbox.Ontology.{Ontology}
+use Rattle.mast_tree.specs.declared.item.Item.{Item}
+use Rattle.mast_tree.specs.declared.shape.ShapeBreach.{ShapeBreach}
+use Rattle.mast_tree.specs.declared.shape.ShapeKind.TheVariants.{Items}
+use Rattle.mast_tree.specs.Judged.{after_judged, Judging, IsRight}
+use Rattle.mast_tree.specs.Judgements.{Judgement, first_breach, AreRight}
+use Rattle.mast_tree.specs.MainNode.{Prefixes, HasParts, IsFrontBreach}
+use Rattle.mast_tree.specs.Said.{Said, name, iri, text, tagged, binding, node, line}
+use Rattle.mast_tree.specs.Seen.{Document}
+use Rattle.mast_expressions.specs.Pages.{Page, page_of, says, names}
+use Rattle.mast_onto.specs.Axioms.{breach_judged, axiom_judged, IsAxiom}
+use Rattle.mast_onto.specs.Lists.{each, AreEach, together}
+use Rattle.mast_onto.specs.Nodes.{axiom_form}
+use Rattle.mast_onto.specs.Numbered.{inclusions_in, negatives_in, functional_in, numbered}
+use Rattle.mast_onto.specs.Stated.{stated}
+use Rattle.mast_onto.specs.declared.statement.Axiom.{Axiom}
+use Rattle.mast_onto.specs.declared.statement.Statement.{Statement}
+use Rattle.mast_onto.specs.declared.statements.TheConstants.{MOST_ITEMS}
+
+-- an IRI, in brackets or by its prefix
+abbrev pub is_iri : Said → Bool
+is_iri (name word at) = true
+is_iri (iri word at) = true
+is_iri (text chars at) = false
+is_iri (tagged at) = false
+is_iri (binding at) = false
+is_iri (node word at items) = false
+
+-- what is judged of an IRI of the ontology, if one stands at the front: its form and prefix
+abbrev pub front_judged : Page → List Item → List Judgement
+front_judged page [] = []
+front_judged page (item ∷ items) = if is_iri (says page item) then breach_judged (names page item) else []
+
+-- the items behind it
+abbrev pub behind_front : Page → List Item → List Item
+behind_front page [] = []
+behind_front page (item ∷ items) = if is_iri (says page item) then items else item ∷ items
+
+-- what is judged of an optional IRI and an optional second one
+abbrev pub iris_judged : Page → List Item → List Judgement
+iris_judged page inside = front_judged page inside ++ front_judged page (behind_front page inside)
+
+-- what stands among the axioms of an ontology, behind its IRIs
+abbrev pub axioms : Page → List Item → List Item
+axioms page inside = behind_front page (behind_front page inside)
+
+-- what is judged inside the main node: the IRIs of the ontology, then each axiom
+abbrev pub inside_judged : Page → List Item → List Judgement
+inside_judged page inside = iris_judged page inside ++ each (axiom_judged page) (axioms page inside)
+
+-- the same of a document, by its prefixes
+abbrev pub ontology_judged : Document → Judging
+ontology_judged doc prefixes inside = inside_judged (page_of doc prefixes) inside
+
+-- what an item among the axioms states
+pub record IsStated (page : Page) (lists : Lists) (item : Item) (statements : List (Lined Statement)) : Type 0 where
+  pub read : Axiom
+  pub is : IsAxiom page lists (axiom_form page item) read
+  pub states : statements ≡ stated (line (says page item)) read
+
+-- the axioms inside the main node state these items, of each axiom a list, within the limit
+abbrev pub HasStatements : Document → Lists → List (List (Lined Statement)) → Prefixes → List Item → Type 0
+HasStatements doc lists of_each prefixes inside =
+    AreEach (IsStated (page_of doc prefixes) lists) (axioms (page_of doc prefixes) inside) of_each
+    × (length (together of_each) ≤ MOST_ITEMS)
+
+-- the document has the ontology, over the names of the vocabulary before it: nothing is wrong with it, and its items are those that its axioms state, in order
+pub record HasOntology (doc : Document) (old : Lists) (ontology : Ontology) : Type 0 where
+  pub of_each : List (List (Lined Statement))
+  pub right : IsRight doc (codes "Ontology") (ontology_judged doc) old ontology.vocab (HasStatements doc ontology.vocab of_each)
+  pub inclusions : ontology.tbox.inclusions ≡ numbered 0 (inclusions_in (together of_each))
+  pub negatives : ontology.tbox.negatives ≡ negatives_in (together of_each)
+  pub functional : ontology.tbox.functional ≡ functional_in (together of_each)
+
+-- the limit of items, at a line
+abbrev pub items_at : ℕ → ShapeBreach
+items_at line = record { line = line; kind = Items }
+
+-- the first breach among axioms before which so many items are stated, or else behind them: in what is judged of the first axiom, or that the count
+-- passes the limit with it, or later
+abbrev pub IsBreachFrom : Page → Lists → ℕ → List Item → List Item → ShapeBreach → Type 0
+IsBreachFrom page lists count [] after breach = first_breach lists (after_judged page.doc after) ≡ Some breach
+IsBreachFrom page lists count (item ∷ items) after breach =
+    (first_breach lists (axiom_judged page item) ≡ Some breach)
+    ⊎ ((new : Lists) × (more : List (Lined Statement)) × AreRight lists (axiom_judged page item) new × IsStated page new item more
+    × (((MOST_ITEMS < count + length more) × (breach ≡ items_at (line (says page item))))
+    ⊎ ((count + length more ≤ MOST_ITEMS) × IsBreachFrom page new (count + length more) items after breach)))
+
+-- the first breach inside the main node or behind it: in the IRIs of the ontology, or from the first axiom on
+abbrev pub IsBreachIn : Page → Lists → List Item → List Item → ShapeBreach → Type 0
+IsBreachIn page old inside after breach =
+    (first_breach old (iris_judged page inside) ≡ Some breach)
+    ⊎ ((first_breach old (iris_judged page inside) ≡ None) × IsBreachFrom page old 0 (axioms page inside) after breach)
+
+-- the document's parts are found, and the breach is the first behind its prologue
+pub record IsInnerBreach (doc : Document) (old : Lists) (breach : ShapeBreach) : Type 0 where
+  pub prefixes : Prefixes
+  pub inside : List Item
+  pub after : List Item
+  pub parts : HasParts doc (codes "Ontology") prefixes inside after
+  pub first : IsBreachIn (page_of doc prefixes) old inside after breach
+
+-- the first breach of an ontology document, over the names of the vocabulary before it
+abbrev pub IsOntologyBreach : Document → Lists → ShapeBreach → Type 0
+IsOntologyBreach doc old breach = IsFrontBreach doc (codes "Ontology") breach ⊎ IsInnerBreach doc old breach
+
+-- two ontologies have the same names and the same axioms
+pub record AreSame (a b : Ontology) : Type 0 where
+  pub vocab : a.vocab ≡ b.vocab
+  pub inclusions : a.tbox.inclusions ≡ b.tbox.inclusions
+  pub negatives : a.tbox.negatives ≡ b.tbox.negatives
+  pub functional : a.tbox.functional ≡ b.tbox.functional
+
+-- a document has an ontology or a first breach, not both, and only one of it
+pub record OntologyLaw (doc : Document) (old : Lists) : Type 0 where
+  pub either : ((ontology : Ontology) × HasOntology doc old ontology) ⊎ ((breach : ShapeBreach) × IsOntologyBreach doc old breach)
+  pub not_both : (ontology : Ontology) (breach : ShapeBreach) → HasOntology doc old ontology → IsOntologyBreach doc old breach → ⊥
+  pub one : (a b : Ontology) → HasOntology doc old a → HasOntology doc old b → AreSame a b
+  pub one_breach : (b c : ShapeBreach) → IsOntologyBreach doc old b → IsOntologyBreach doc old c → b ≡ c

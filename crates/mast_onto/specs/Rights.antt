@@ -1,0 +1,103 @@
+-- Right sides: the parts of one, what is judged of them, and what they give.
+use Rattle.std.specs.Prelude.{◌≡◌, ⊤, ℕ, zero, suc, Bool, false, if◌then◌else◌, List, [], ◌∷◌, ◌++◌, Option, Some, None, Result, Ok, Err, codes}
+use Rattle.std.specs.Str.{bytes_eq}
+use Rattle.mast_terms.specs.Vocabularies.{Lists}
+use Rattle.mast_tree.specs.declared.item.Item.{Item}
+use Rattle.mast_tree.specs.declared.shape.ShapeBreach.{ShapeBreach}
+use Rattle.mast_tree.specs.declared.shape.ShapeKind.TheVariants.{Shape, NotDlLite}
+use Rattle.mast_tree.specs.Judgements.{Judgement, breaks}
+use Rattle.mast_tree.specs.Said.{Said, node}
+use Rattle.mast_expressions.specs.Pages.{Page, says, names, owl_thing}
+use Rattle.mast_expressions.specs.Judged.{class_judged, role_judged, left_judged}
+use Rattle.mast_expressions.specs.Given.{IsClassIn, IsRole, IsLeft}
+use Rattle.mast_onto.specs.Lists.{each}
+use Rattle.mast_onto.specs.declared.right.TheConstants.{MOST_NESTED}
+use Rattle.mast_onto.specs.declared.statement.Part.{Part}
+use Rattle.mast_onto.specs.declared.statement.Part.TheVariants as part
+
+-- the form of a part: owl:Thing, a left side, a role with the class of its filler, a complement, or a wrong number of items
+pub data PartForm : Type 0 where
+  thing : PartForm
+  left : Item → PartForm
+  filled : Item → Item → PartForm
+  complement : Item → PartForm
+  wrong : ℕ → PartForm
+
+-- an IRI that is owl:Thing
+abbrev pub is_thing : Result (List ℕ) ShapeBreach → Bool
+is_thing (Ok iri) = bytes_eq iri owl_thing
+is_thing (Err breach) = false
+
+-- `ObjectSomeValuesFrom(Role owl:Thing)` is a left side, and any other filler is a class
+abbrev pub filled_form : Page → Item → ℕ → List Item → PartForm
+filled_form page item at (role ∷ filler ∷ []) = if is_thing (names page filler) then left item else filled role filler
+filled_form page item at _ = wrong at
+
+-- `ObjectComplementOf(Left)`
+abbrev pub complement_form : ℕ → List Item → PartForm
+complement_form at (only ∷ []) = complement only
+complement_form at _ = wrong at
+
+-- a node as a part
+abbrev pub part_node : Page → Item → List ℕ → ℕ → List Item → PartForm
+part_node page item word at items =
+    if bytes_eq word (codes "ObjectSomeValuesFrom") then filled_form page item at items
+    else if bytes_eq word (codes "ObjectComplementOf") then complement_form at items
+    else left item
+
+-- another item as a part
+abbrev pub part_leaf : Page → Item → PartForm
+part_leaf page item = if is_thing (names page item) then thing else left item
+
+-- the form of a part, by what its item says
+abbrev pub part_said : Page → Item → Said → PartForm
+part_said page item (node word at items) = part_node page item word at items
+part_said page item leaf = part_leaf page item
+
+-- the form of a part
+abbrev pub part_form : Page → Item → PartForm
+part_form page item = part_said page item (says page item)
+
+-- `ObjectIntersectionOf` of two or more right sides, each of which has these parts
+abbrev pub both_forms : (Item → List PartForm) → ℕ → List Item → List PartForm
+both_forms forms at (first ∷ second ∷ more) = each forms (first ∷ second ∷ more)
+both_forms forms at _ = wrong at ∷ []
+
+-- an intersection at a line, with the items inside it
+abbrev pub intersection : Said → Option (ℕ × List Item)
+intersection (node word at items) = if bytes_eq word (codes "ObjectIntersectionOf") then Some (at, items) else None
+intersection leaf = None
+
+-- the parts of an intersection, or the one part that another item is
+abbrev pub opened : Page → (Item → List PartForm) → Item → Option (ℕ × List Item) → List PartForm
+opened page forms item None = part_form page item ∷ []
+opened page forms item (Some p) = both_forms forms p.0 p.1
+
+-- the parts of a right side in which at most so many intersections stand in one another
+abbrev pub forms_within : ℕ → Page → Item → List PartForm
+forms_within zero page item = part_form page item ∷ []
+forms_within (suc depth) page item = opened page (forms_within depth page) item (intersection (says page item))
+
+-- the parts of a right side. No more intersections stand in one another than parentheses may be open
+abbrev pub right_forms : Page → Item → List PartForm
+right_forms page item = forms_within MOST_NESTED page item
+
+-- what is judged of a part
+abbrev pub part_judged : Page → PartForm → List Judgement
+part_judged page thing = []
+part_judged page (left item) = left_judged page item
+part_judged page (filled role filler) = role_judged NotDlLite page role ++ class_judged NotDlLite page filler
+part_judged page (complement item) = left_judged page item
+part_judged page (wrong at) = breaks Shape at ∷ []
+
+-- Right: Left; owl:Thing; `ObjectSomeValuesFrom(Role Class)`; `ObjectComplementOf(Left)`; `ObjectIntersectionOf` of two or more Right
+abbrev pub right_judged : Page → Item → List Judgement
+right_judged page item = each (part_judged page) (right_forms page item)
+
+-- the part that a form gives
+abbrev pub IsPart : Page → Lists → PartForm → Part → Type 0
+IsPart page lists thing part.Thing = ⊤
+IsPart page lists (left item) (part.Basic b) = IsLeft lists page item b
+IsPart page lists (filled role filler) (part.Qualified r a) = IsRole lists page role r × IsClassIn lists page filler a
+IsPart page lists (complement item) (part.Complement b) = IsLeft lists page item b
+IsPart page lists _ _ = ⊥
