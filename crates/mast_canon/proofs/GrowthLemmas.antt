@@ -33,7 +33,7 @@ use Rattle.mast_tbox.specs.declared.expression.RoleExpr.TheVariants.{Direct, Inv
 use Rattle.mast_tbox.specs.Lists.{items}
 use Rattle.mast_tbox.specs.Names.{RoleNamed, PropNamed, BasicNamed, EndNamed, InclusionNamed}
 use Rattle.mast_canon.specs.Conditions.{StandsIn, ConstantsStandIn, AxiomsInRange, ConstraintsInRange, SplitInRange}
-use Rattle.mast_canon.specs.Growing.{BeginsWith, Begins}
+use Rattle.mast_tree.specs.Growing.{BeginsWith, Begins}
 use Rattle.mast_canon.specs.Named.{NegativeNamed, StepNamed, ConstraintNamed, HeadNamed}
 use Rattle.mast_canon.proofs.SupportLemmas.{each_weaker}
 

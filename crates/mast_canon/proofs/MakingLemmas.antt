@@ -13,7 +13,7 @@ use Rattle.mast_tbox.specs.declared.constraint.Constraint.{Constraint}
 use Rattle.mast_tbox.specs.declared.expression.Prop.{Prop}
 use Rattle.mast_tbox.specs.Restrictions.{IsRestrictionBreach}
 use Rattle.mast_canon.specs.Conditions.{AxiomsInRange, ConstraintsInRange, SplitInRange, HaveForm, SplitOverTables, HasNumbers}
-use Rattle.mast_canon.specs.Growing.{Begins}
+use Rattle.mast_tree.specs.Growing.{Begins}
 use Rattle.mast_canon.specs.Premises.{AreMappings}
 use Rattle.mast_canon.proofs.GrowthLemmas.{axioms_stay, constraints_stay, maps_stay}
 use Rattle.mast_canon.proofs.OverLemmas.{split_in_range, split_over_tables, empty_unbreached}

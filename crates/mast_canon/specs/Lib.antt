@@ -2,7 +2,6 @@ pub mod Choices
 pub mod Conditions
 pub mod Facts
 pub mod Fitting
-pub mod Growing
 pub mod Laws
 pub mod Named
 pub mod Premises

@@ -1,7 +1,7 @@
 //! How specifications are made and changed.
 ghost use Rattle.std.specs.Prelude.{◌≡◌, [], IfOk};
 ghost use Rattle.mast_mapping.specs.Split.{split_maps};
-ghost use Rattle.mast_canon.specs.Growing.{Begins};
+ghost use Rattle.mast_tree.specs.Growing.{Begins};
 ghost use Rattle.mast_canon.specs.Premises.{AreMappings, AreSplitMaps};
 
 use crate::Spec;
