@@ -1,0 +1,16 @@
+pub mod EachLemmas
+pub mod VariableLemmas
+pub mod GrowLemmas
+pub mod SortLemmas
+pub mod KnownLemmas
+pub mod SizeLemmas
+pub mod KeptLemmas
+pub mod OnceLemmas
+pub mod FoundLemmas
+pub mod OneLemmas
+pub mod LawLemmas
+pub mod StepLemmas
+pub mod ShownLemmas
+pub mod LoopLemmas
+pub mod AtomLemmas
+pub mod WholeLemmas

@@ -1,0 +1,63 @@
+-- The variables of a denial: `?` and an identifier, numbered in the order in which they first stand.
+use Rattle.std.specs.Prelude.{◌≡◌, ℕ, ◌==◌, ◌&&◌, if◌then◌else◌, List, [], ◌∷◌, ◌++◌, Option, Some, None, slice_get}
+use Rattle.std.specs.Str.{bytes_eq}
+use Rattle.mast_cq.specs.declared.atom.Arg.{Arg}
+use Rattle.mast_cq.specs.declared.atom.Arg.TheVariants as arg
+use Rattle.mast_tree.specs.declared.shape.ShapeKind.TheVariants.{Shape, SortClash}
+use Rattle.mast_tree.specs.Constants.{is_identifier}
+use Rattle.mast_tree.specs.Judgements.{Judgement, breaks}
+use Rattle.mast_tree.specs.Said.{Said, name}
+use Rattle.mast_constr.specs.declared.variables.Sort.{Sort}
+use Rattle.mast_constr.specs.declared.variables.Sort.TheVariants.{Object, Value}
+
+-- the question mark
+abbrev pub question : ℕ
+question = 0x3F
+
+-- the name of a variable, behind its `?`
+abbrev pub variable_in : List ℕ → Option (List ℕ)
+variable_in [] = None
+variable_in (b ∷ bs) = if b == question && is_identifier bs then Some bs else None
+
+-- the name of the variable that an item is, if it is one
+abbrev pub variable : Said → Option (List ℕ)
+variable (name word at) = variable_in word
+variable other = None
+
+-- variables in the order of their numbers, each with the sort of its first place
+abbrev pub Variables : Type 0
+Variables = List (List ℕ × Sort)
+
+-- the sort of a variable that stands among them
+abbrev pub sort_of : List ℕ → Variables → Option Sort
+sort_of x [] = None
+sort_of x (v ∷ vs) = if bytes_eq x v.0 then Some v.1 else sort_of x vs
+
+-- a variable that stands keeps its number, and a new one has the next
+abbrev pub joined : Sort → List ℕ → Option Sort → Variables → Variables
+joined sort x None known = known ++ (x, sort) ∷ []
+joined sort x (Some other) known = known
+
+-- the variables once this stands in a place of the sort
+abbrev pub placed : Sort → Option (List ℕ) → Variables → Variables
+placed sort None known = known
+placed sort (Some x) known = joined sort x (sort_of x known) known
+
+-- a place of this sort, of a variable that first stands in a place of that sort
+abbrev pub sort_judged : Sort → Option Sort → ℕ → List Judgement
+sort_judged sort None at = []
+sort_judged Object (Some Object) at = []
+sort_judged Object (Some Value) at = breaks SortClash at ∷ []
+sort_judged Value (Some Object) at = breaks SortClash at ∷ []
+sort_judged Value (Some Value) at = []
+
+-- what is judged of a variable in a place of this sort, at a line
+abbrev pub variable_judged : Sort → Variables → Option (List ℕ) → ℕ → List Judgement
+variable_judged sort known None at = breaks Shape at ∷ []
+variable_judged sort known (Some x) at = sort_judged sort (sort_of x known) at
+
+-- the argument is the variable, by its number, and its places have this sort
+abbrev pub IsVariable : Sort → Variables → Option (List ℕ) → Arg → Type 0
+IsVariable sort known found arg.Blank = ⊥
+IsVariable sort known found (arg.Var n) = (x : List ℕ) × (found ≡ Some x) × (slice_get known n ≡ Some (x, sort))
+IsVariable sort known found (arg.Constant n) = ⊥
