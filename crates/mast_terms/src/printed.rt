@@ -25,6 +25,22 @@ pub fn write_term(alloc: Global, term: &Term, out: &mut Vec<u8>) -> Result<(), N
     }
 }
 
+/// Appends the printed form of a value. For want of memory `out` is as it was.
+pub fn write_value(alloc: Global, value: &Value, out: &mut Vec<u8>) -> Result<(), NoMemory>
+    ensures ok { OnOk result (out.new.items ≡ out.old.items ++ value_text value.now) }
+    ensures err { OnErr result (out.new.items ≡ out.old.items) }
+{
+    let _ = alloc;
+    let start = out.len();
+    match push_value(value, out) {
+        Ok(()) => Ok(()),
+        Err(NoMemory) => {
+            out.truncate(start);
+            Err(NoMemory)
+        }
+    }
+}
+
 /// A law: different terms have different printed forms, whatever their symbols.
 pub fn printing_is_injective()
     ensures { IsInjective term_text }
@@ -47,9 +63,9 @@ fn push_object(object: &Object, out: &mut Vec<u8>) -> Result<(), NoMemory>
     ensures err { OnErr result (Grows out.old.items out.new.items) }
 {
     push_bytes(object.symbol.as_str().as_bytes(), out)?;
-    push_byte(b'(', out)?;
+    push_bytes(b"(", out)?;
     push_args(object.args.as_slice(), out)?;
-    push_byte(b')', out)?;
+    push_bytes(b")", out)?;
     Ok(())
 }
 
@@ -71,7 +87,7 @@ fn push_after_commas(args: &[Value], out: &mut Vec<u8>) -> Result<(), NoMemory>
     ensures err { OnErr result (Grows out.old.items out.new.items) }
 {
     for value in args {
-        push_byte(b',', out)?;
+        push_bytes(b",", out)?;
         push_value(value, out)?;
     }
     Ok(())
@@ -105,8 +121,7 @@ fn push_two_digits(number: u8, out: &mut Vec<u8>) -> Result<(), NoMemory>
     ensures ok { OnOk result (out.new.items ≡ out.old.items ++ two_digits number) }
     ensures err { OnErr result (Grows out.old.items out.new.items) }
 {
-    push_byte(b'0' + number / 10, out)?;
-    push_byte(b'0' + number % 10, out)?;
+    push_bytes(&[b'0' + number / 10, b'0' + number % 10], out)?;
     Ok(())
 }
 
@@ -117,9 +132,9 @@ fn push_date(date: Date, out: &mut Vec<u8>) -> Result<(), NoMemory>
 {
     push_two_digits((date.year / 100) as u8, out)?;
     push_two_digits((date.year % 100) as u8, out)?;
-    push_byte(b'-', out)?;
+    push_bytes(b"-", out)?;
     push_two_digits(date.month, out)?;
-    push_byte(b'-', out)?;
+    push_bytes(b"-", out)?;
     push_two_digits(date.day, out)?;
     Ok(())
 }
@@ -135,7 +150,7 @@ fn push_escaped(byte: u8, out: &mut Vec<u8>) -> Result<(), NoMemory>
         b'\n' => push_bytes(b"\\n", out)?,
         b'\r' => push_bytes(b"\\r", out)?,
         b'\t' => push_bytes(b"\\t", out)?,
-        _ => push_byte(byte, out)?,
+        _ => push_bytes(&[byte], out)?,
     }
     Ok(())
 }
@@ -144,20 +159,11 @@ fn push_quoted(text: &[u8], out: &mut Vec<u8>) -> Result<(), NoMemory>
     ensures ok { OnOk result (out.new.items ≡ out.old.items ++ quoted text.now) }
     ensures err { OnErr result (Grows out.old.items out.new.items) }
 {
-    push_byte(b'"', out)?;
+    push_bytes(b"\"", out)?;
     for byte in text {
         push_escaped(*byte, out)?;
     }
-    push_byte(b'"', out)?;
-    Ok(())
-}
-
-#[tactic(auto, using(crate::proofs::GrowthLemmas::grows_same))]
-fn push_byte(byte: u8, out: &mut Vec<u8>) -> Result<(), NoMemory>
-    ensures ok { OnOk result (out.new.items ≡ out.old.items ++ byte ∷ []) }
-    ensures err { OnErr result (Grows out.old.items out.new.items) }
-{
-    out.push(byte)?;
+    push_bytes(b"\"", out)?;
     Ok(())
 }
 
