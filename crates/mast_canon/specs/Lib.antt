@@ -4,5 +4,6 @@ pub mod Facts
 pub mod Fitting
 pub mod Laws
 pub mod Named
+pub mod Places
 pub mod Premises
 pub mod RowOrder

@@ -4,11 +4,13 @@
 //! It must not know how documents, tables and queries are read, nor how facts are found or printed.
 #![tactic(auto)]
 
+mod columns;
 mod laws;
 mod making;
 mod rows;
 mod spec;
 
+pub use columns::{Place, output_place, place_of, table_number};
 pub use laws::{split_law, support_law};
 pub use rows::{RowId, Tables, row_laws};
 pub use spec::Spec;

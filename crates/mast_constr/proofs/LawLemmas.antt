@@ -15,7 +15,7 @@ use Rattle.mast_tree.proofs.GrowingLemmas.{after_begins}
 use Rattle.mast_tree.proofs.JudgementLemmas.{after-append}
 use Rattle.mast_tree.proofs.JudgedLemmas.{one_prefixes, one_inside, right_or_breach, right_not_breach, one_first_breach, one_vocabulary}
 use Rattle.mast_expressions.specs.Pages.{page_of}
-use Rattle.mast_expressions.proofs.VocabularyLemmas.{judged_vocabulary}
+use Rattle.mast_tree.proofs.VocabularyLemmas.{after_lawful}
 use Rattle.mast_constr.specs.Denials.{Dates}
 use Rattle.mast_constr.specs.Items.{constraints_judged, IsLined, AreConstraints}
 use Rattle.mast_constr.specs.Whole.{judging, HasList, HasConstraints, IsConstraintsBreach, ConstraintsLaw}
@@ -27,7 +27,7 @@ use Rattle.mast_constr.proofs.SizeLemmas.{none_parts}
 
 vocabulary_after : (dates : Dates) (doc : Document) (old new : Lists) (P : Prefixes → List Item → Type 0) → IsVocabulary old → IsRight doc (codes "Constraints") (judging dates doc) old new P → IsVocabulary new
 vocabulary_after dates doc old new P v h =
-    subst IsVocabulary (sym h.right.then) (judged_vocabulary old (judging dates doc h.prefixes h.inside ++ after_judged doc h.after) v h.right.none)
+    subst IsVocabulary (sym h.right.then) (after_lawful old (judging dates doc h.prefixes h.inside ++ after_judged doc h.after) v h.right.none)
 
 -- what is judged without a breach has constraints
 has_some : (dates : Dates) (doc : Document) (old new : Lists) → IsRight doc (codes "Constraints") (judging dates doc) old new (λ x y. ⊤)

@@ -1,13 +1,12 @@
 //! The variables of a denial.
 ghost use Rattle.std.specs.Prelude.{◌≡◌, ◌+◌, ◌<◌, ◌≤◌, ◌++◌, ◌∷◌, [], None, Some, Option, MatchOption, length, slice_get, option_copied, IfOk, OnOk, OnErr};
-ghost use Rattle.mast_tree.specs.Constants.{is_word_byte as is_word_byte_of, are_word as are_word_of, is_identifier as is_identifier_of};
 ghost use Rattle.mast_constr.specs.Variables as spec;
 ghost use Rattle.mast_constr.specs.inside.Rules.{ReadsVariable, IsFound, IsSame};
 ghost use Rattle.mast_constr.specs.inside.Shown.{shown_all};
 
 use mast_cq::Arg;
 use mast_terms::{NoMemory, Stop};
-use mast_tree::{ShapeBreach, ShapeKind};
+use mast_tree::{ShapeBreach, ShapeKind, is_identifier};
 use std::alloc::Global;
 use std::marker::Model;
 
@@ -38,35 +37,6 @@ impl<'a> Model for Variables<'a> {
     ghost Value = { Known };
 
     ghost view = { λ v. shown_all v.list.items };
-}
-
-// An ASCII letter, a digit or `_`.
-fn is_word_byte(b: u8) -> bool
-    ensures { result ≡ is_word_byte_of b }
-{
-    b == b'_' || b.is_ascii_alphanumeric()
-}
-
-// These alone.
-fn are_word(bytes: &[u8]) -> bool
-    ensures { result ≡ are_word_of bytes.now }
-{
-    for b in bytes {
-        if !is_word_byte(*b) {
-            return false;
-        }
-    }
-    true
-}
-
-// ASCII letters, digits and `_`, one or more, that do not begin with a digit.
-fn is_identifier(bytes: &[u8]) -> bool
-    ensures { result ≡ is_identifier_of bytes.now }
-{
-    match bytes {
-        [] => false,
-        [first, ..] => !first.is_ascii_digit() && are_word(bytes),
-    }
 }
 
 // The name of a variable, behind its `?`.

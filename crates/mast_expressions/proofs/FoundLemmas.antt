@@ -27,12 +27,12 @@ use Rattle.mast_expressions.specs.Judged.{named_judged, inverse_judged, role_sai
 use Rattle.mast_expressions.specs.Given.{IsNamed, IsInverseOf, IsRole, IsSomeOf, IsSubjectsOf, IsLeft}
 use Rattle.mast_expressions.proofs.GivenLemmas.{named_grows, role_grows}
 use Rattle.mast_expressions.proofs.ReadLemmas.{is_node}
-use Rattle.mast_expressions.proofs.VocabularyLemmas.{none_first}
+use Rattle.mast_tree.proofs.VocabularyLemmas.{none_of}
 
 -- nothing is wrong with the first part, nor with the second over the lists after it
 pub none_parts : (old : Lists) (first second : List Judgement) → first_breach old (first ++ second) ≡ None
     → (first_breach old first ≡ None) × (first_breach (after old first) second ≡ None)
-none_parts old first second h = none_first (first_breach old first) (first_breach (after old first) second) (sym (first_breach-append old first second) ∙ h)
+none_parts old first second h = none_of (first_breach old first) (first_breach (after old first) second) (sym (first_breach-append old first second) ∙ h)
 
 -- an IRI that stands has a place
 place_found : (xs : List (List ℕ)) (x : List ℕ) → list_any (bytes_eq x) xs ≡ true → (n : ℕ) × (slice_get xs n ≡ Some x)

@@ -4,7 +4,6 @@
 //! It must not know how queries and tables are read, nor what facts the choices give.
 #![tactic(auto)]
 
-mod columns;
 mod comparisons;
 mod found;
 mod grow;

@@ -7,11 +7,10 @@ ghost use Rattle.mast_join.specs.Chosen.{AreChoices, AreFew};
 ghost use Rattle.mast_join.specs.inside.Plans as plans;
 ghost use Rattle.mast_join.specs.inside.Plans.{AreTests, IsSide};
 
-use crate::columns::{place_of, table_number};
 use crate::comparisons::{Side, Test};
 use crate::found::Choices;
 use crate::join::Join;
-use mast_canon::{RowId, Tables};
+use mast_canon::{RowId, Tables, place_of, table_number};
 use mast_sql::{Comparison, FromEntry, Operand, SourceQuery};
 use mast_tables::TableDecl;
 use mast_terms::NoMemory;

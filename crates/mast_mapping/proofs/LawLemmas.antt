@@ -20,7 +20,7 @@ use Rattle.mast_mapping.specs.Readings.{Texts, AreTexts}
 use Rattle.mast_mapping.proofs.OneLemmas.{one_said}
 use Rattle.mast_mapping.proofs.TextLemmas.{the_texts, are_texts, one_texts}
 use Rattle.mast_mapping.proofs.ThereLemmas.{none_in, items_there}
-use Rattle.mast_mapping.proofs.VocabularyLemmas.{after_lawful}
+use Rattle.mast_tree.proofs.VocabularyLemmas.{after_lawful}
 
 -- what is answered by what each text is, is answered of the document
 pub has_answer : (doc : Document) (old : Lists) (answer : Result Mappings (Stop ShapeBreach))

@@ -14,5 +14,4 @@ pub mod StopLemmas
 pub mod TablesGrowLemmas
 pub mod TextLemmas
 pub mod ThereLemmas
-pub mod VocabularyLemmas
 pub mod WholeLemmas

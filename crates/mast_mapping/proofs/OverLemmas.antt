@@ -42,7 +42,7 @@ use Rattle.mast_mapping.specs.Queries.{double_breach, from_breach, items_breach,
 use Rattle.mast_mapping.specs.Readings.{Reading, query, wrong, Texts}
 use Rattle.mast_mapping.specs.inside.Sources.{outputs_of}
 use Rattle.mast_mapping.proofs.TablesGrowLemmas.{none_first, there_of, over_stays}
-use Rattle.mast_mapping.proofs.VocabularyLemmas.{same_bytes, once_pushed}
+use Rattle.mast_tree.proofs.VocabularyLemmas.{same_bytes, once_pushed}
 
 -- ---- names stand once
 

@@ -30,7 +30,7 @@ use Rattle.mast_mapping.specs.Heads.{Scope, part_judged, object_of, slot_of, obj
 use Rattle.mast_mapping.specs.Maps.{query_of, scope_of, parts_judged, map_judged, IsMap}
 use Rattle.mast_mapping.specs.OverTables.{table_names}
 use Rattle.mast_mapping.specs.Readings.{Texts}
-use Rattle.mast_mapping.proofs.VocabularyLemmas.{none_of}
+use Rattle.mast_tree.proofs.VocabularyLemmas.{none_of}
 
 -- P of something, in each vocabulary that begins with that after these judgements
 abbrev pub Found : {A : Type 0} → Lists → List Judgement → (Lists → A → Type 0) → Type 0

@@ -15,7 +15,7 @@ use Rattle.mast_tree.proofs.GrowingLemmas.{right_begins}
 use Rattle.mast_tree.proofs.JudgementLemmas.{after-append, first_breach-append, right_parts}
 use Rattle.mast_expressions.specs.Pages.{Page, says}
 use Rattle.mast_expressions.proofs.FoundLemmas.{none_parts}
-use Rattle.mast_expressions.proofs.VocabularyLemmas.{judged_vocabulary}
+use Rattle.mast_tree.proofs.VocabularyLemmas.{after_lawful}
 use Rattle.mast_onto.specs.Axioms.{axiom_judged}
 use Rattle.mast_onto.specs.Lists.{each, AreEach, together}
 use Rattle.mast_onto.specs.Ontologies.{IsStated, IsBreachFrom, items_at}
@@ -33,7 +33,7 @@ pub record RightFrom (page : Page) (now : Lists) (count : ℕ) (items behind : L
 
 -- the vocabulary after what is right
 pub then_vocabulary : (old new : Lists) (js : List Judgement) → IsVocabulary old → AreRight old js new → IsVocabulary new
-then_vocabulary old new js v h = subst IsVocabulary (sym h.then) (judged_vocabulary old js v h.none)
+then_vocabulary old new js v h = subst IsVocabulary (sym h.then) (after_lawful old js v h.none)
 
 right_after : (old : Lists) (js : List Judgement) → first_breach old js ≡ None → AreRight old js (after old js)
 right_after old js h = record { none = h; then = refl }

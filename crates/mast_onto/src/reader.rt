@@ -3,7 +3,6 @@ ghost use Rattle.std.specs.Prelude.{◌≡◌, Some, Option};
 ghost use Rattle.mast_terms.specs.declared.memory.Stop.TheVariants as stop;
 ghost use Rattle.mast_terms.specs.Vocabularies.{Lists};
 ghost use Rattle.mast_tree.specs.Judgements.{Judges};
-ghost use Rattle.mast_tree.specs.Names.{is_standard};
 ghost use Rattle.mast_tree.specs.Results.{Gives};
 ghost use Rattle.mast_expressions.specs.Reads.{page};
 ghost use Rattle.mast_onto.specs.Axioms as spec;
@@ -18,7 +17,7 @@ use crate::statement::{Axiom, Expression};
 use mast_expressions::Places;
 use mast_tbox::Basic;
 use mast_terms::{AddRefusal, Kind, List, NameKind, Stop, Vocabulary};
-use mast_tree::{Item, ShapeBreach, ShapeKind};
+use mast_tree::{Item, ShapeBreach, ShapeKind, is_standard};
 use std::alloc::Global;
 
 /// A document with its prefixes: each method reads what stands in one place.
@@ -32,16 +31,6 @@ pub(crate) fn shape(line: u32, kind: ShapeKind) -> Stop<ShapeBreach>
     ensures { result ≡ stop.Named (record { line = line; kind = kind }) }
 {
     Stop::Named(ShapeBreach { line, kind })
-}
-
-// Whether an IRI is in one of the four namespaces of the standards.
-fn is_standard(iri: &[u8]) -> bool
-    ensures { result ≡ is_standard iri.now }
-{
-    iri.starts_with("http://www.w3.org/2002/07/owl#".as_bytes())
-        || iri.starts_with("http://www.w3.org/1999/02/22-rdf-syntax-ns#".as_bytes())
-        || iri.starts_with("http://www.w3.org/2000/01/rdf-schema#".as_bytes())
-        || iri.starts_with("http://www.w3.org/2001/XMLSchema#".as_bytes())
 }
 
 // The kind of the values of a type.

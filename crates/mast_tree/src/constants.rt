@@ -31,8 +31,8 @@ fn are_word(bytes: &[u8]) -> bool
     true
 }
 
-// ASCII letters, digits and `_`, one or more, that do not begin with a digit.
-fn is_identifier(bytes: &[u8]) -> bool
+/// Whether these bytes are an identifier: ASCII letters, digits and `_`, one or more, that do not begin with a digit.
+pub fn is_identifier(bytes: &[u8]) -> bool
     ensures { result ≡ spec.is_identifier bytes.now }
 {
     match bytes {

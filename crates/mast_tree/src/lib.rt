@@ -21,11 +21,13 @@ mod token_list;
 mod trees;
 mod words;
 
+pub use constants::is_identifier;
 pub use document::{Doc, DocName, read_doc};
 pub use item::{Item, TreeBreach, TreeKind};
 pub use laws::{prologue_law, span_law, token_law, tree_law};
 pub use layer::Layer;
 pub use main_node::Parts;
+pub use names::is_standard;
 pub use prefix::PrefixTable;
 pub use prologue::prefixes;
 pub use shape::{ShapeBreach, ShapeKind};

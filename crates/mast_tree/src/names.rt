@@ -8,8 +8,8 @@ use crate::{Doc, Item, PrefixTable, ShapeBreach, ShapeKind};
 use mast_terms::{AddRefusal, Name, NameKind, Stop, Vocabulary};
 use std::alloc::Global;
 
-// Whether an IRI is in one of the four namespaces of the standards.
-fn is_standard(iri: &[u8]) -> bool
+/// Whether an IRI is in one of the four namespaces of the standards: OWL, RDF, RDFS and XML Schema.
+pub fn is_standard(iri: &[u8]) -> bool
     ensures { result ≡ is_standard iri.now }
 {
     iri.starts_with("http://www.w3.org/2002/07/owl#".as_bytes())

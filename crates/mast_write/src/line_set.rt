@@ -5,7 +5,7 @@ ghost use Rattle.mast_write.specs.LineText.{IsTextOf, StandsIn};
 ghost use Rattle.mast_write.specs.Written.{blank};
 
 use crate::places::sorted_text;
-use mast_terms::{NoMemory, Term, Value, write_term};
+use mast_terms::{NoMemory, Term, Value, write_term, write_value};
 use std::alloc::Global;
 use std::marker::Model;
 
@@ -60,8 +60,7 @@ impl Lines {
         ensures begun { OnOk result (self.new.begun ≡ self.old.begun ++ value_text value.now) }
         ensures err { OnErr result (self.new ≡ self.old) }
     {
-        let term = Term::Value(value.copy(alloc)?);
-        write_term(alloc, &term, &mut self.bytes)
+        write_value(alloc, value, &mut self.bytes)
     }
 
     /// Writes a term after what is written of the line.

@@ -1,5 +1,5 @@
 -- What a source query is made into: tables by number, and comparisons whose sides are places.
-use Rattle.std.specs.Prelude.{◌≡◌, ℕ, Bool, true, ◌&&◌, nat_lt, if◌then◌else◌, List, [], ◌∷◌, ◌++◌, map, get_or, Option, Some, None}
+use Rattle.std.specs.Prelude.{◌≡◌, ℕ, Bool, true, ◌&&◌, nat_lt, List, [], ◌∷◌, ◌++◌, map, get_or, Option, Some, None}
 use Rattle.std.specs.List.{AllZip}
 use Rattle.mast_terms.specs.declared.value.Value.{Value}
 use Rattle.mast_sql.specs.declared.query.Comparison.{Comparison}
@@ -8,20 +8,10 @@ use Rattle.mast_sql.specs.declared.query.Operand.{Operand}
 use Rattle.mast_sql.specs.declared.query.Operand.TheVariants as operand
 use Rattle.mast_tables.specs.declared.declaration.TableDecl.{TableDecl}
 use Rattle.mast_tables.specs.Rows.{Row}
-use Rattle.mast_mapping.specs.Columns.{Meaning, table_named, column_of_table, is_alias, meaning_of}
-use Rattle.mast_join.specs.declared.columns.Place.{Place}
+use Rattle.mast_mapping.specs.Columns.{Meaning, meaning_of}
 use Rattle.mast_join.specs.declared.comparisons.Side.{Side}
 use Rattle.mast_join.specs.declared.comparisons.Side.TheVariants as side
 use Rattle.mast_join.specs.declared.comparisons.Test.{Test}
-
--- what a place means
-abbrev pub meaning : Place → Meaning
-meaning p = record { entry = p.entry; column = p.column; kind = p.kind }
-
--- the column of a name in the table of an entry, where the entry may have it
-abbrev pub column_in : List TableDecl → Option (List ℕ) → List ℕ → ℕ → FromEntry → Option Meaning
-column_in decls alias name number entry =
-    if is_alias alias entry.alias then column_of_table name number (table_named entry.table decls) else None
 
 -- the side is the place of what its column means, or nothing where it means none
 abbrev pub IsPlaced : Option Meaning → Side → Type 0

@@ -1,25 +1,28 @@
-//! The columns that the sides of comparisons mean, by the declared tables.
+//! The columns that sides of comparisons and outputs mean, and the numbers of tables, by the declared tables.
 ghost use Rattle.std.specs.Prelude.{◌≡◌};
 ghost use Rattle.std.specs.Option.{option_copied, option_map};
 ghost use Rattle.mast_mapping.specs.Columns as spec;
 ghost use Rattle.mast_canon.specs.Choices as choices;
-ghost use Rattle.mast_join.specs.inside.Plans as plans;
-ghost use Rattle.mast_join.specs.inside.Plans.{meaning};
+ghost use Rattle.mast_canon.specs.Places as places;
+ghost use Rattle.mast_canon.specs.Places.{meaning};
 
-use mast_sql::FromEntry;
+use mast_sql::{FromEntry, SelectItem, SourceQuery};
 use mast_tables::{Column, TableDecl};
 use mast_terms::{Kind, Text};
 
-// The column of an entry's table, both from 0, and its kind.
+/// A column of the table of a FROM entry.
 #[derive(Clone, Copy)]
-pub(crate) struct Place {
-    pub(crate) entry: usize,
-    pub(crate) column: usize,
-    pub(crate) kind: Kind,
+pub struct Place {
+    /// The number of the entry, from 0.
+    pub entry: usize,
+    /// The number of the column in the entry's table, from 0.
+    pub column: usize,
+    /// The kind of the column.
+    pub kind: Kind,
 }
 
-// The number of the table of a name, from 0; where there is none, one that no table has.
-pub(crate) fn table_number(name: &Text, decls: &[TableDecl]) -> usize
+/// The number of the table of a name, from 0; where there is none, one that no table has.
+pub fn table_number(name: &Text, decls: &[TableDecl]) -> usize
     ensures { result ≡ choices.table_number name.now decls.now }
 {
     let mut number = 0;
@@ -80,7 +83,7 @@ fn column_in(
     number: usize,
     entry: &FromEntry,
 ) -> Option<Place>
-    ensures { option_map meaning result ≡ plans.column_in decls.now alias.now name.now number entry.now }
+    ensures { option_map meaning result ≡ places.column_in decls.now alias.now name.now number entry.now }
 {
     if !is_alias(alias, &entry.alias) {
         return None;
@@ -91,8 +94,9 @@ fn column_in(
     }
 }
 
-// The only column of a name, with an alias before it or without.
-pub(crate) fn place_of(
+/// What a column means over these entries: the only column of its name, with an alias before it or without. None where no
+/// entry has it, or two have.
+pub fn place_of(
     decls: &[TableDecl],
     entries: &[FromEntry],
     alias: &Option<Text>,
@@ -112,4 +116,26 @@ pub(crate) fn place_of(
         number += 1;
     }
     found
+}
+
+// The item that goes out under this name.
+fn item_named<'a>(items: &'a [SelectItem], name: &Text) -> Option<&'a SelectItem>
+    ensures { option_copied result ≡ spec.item_named name.now items.now }
+{
+    for item in items {
+        if item.output == *name {
+            return Some(item);
+        }
+    }
+    None
+}
+
+/// What an output of a source query means. None where no item goes out under this name, or its column means nothing.
+pub fn output_place(decls: &[TableDecl], query: &SourceQuery, name: &Text) -> Option<Place>
+    ensures { option_map meaning result ≡ spec.meaning_of_output decls.now query.now name.now }
+{
+    match item_named(query.items.as_slice(), name) {
+        None => None,
+        Some(item) => place_of(decls, query.from.as_slice(), &item.alias, &item.column),
+    }
 }

@@ -1,6 +1,6 @@
 use Rattle.std.proofs.Common.{◌≡◌, ◌+◌, drop}
 use Rattle.mast_canon.specs.Choices.{table_number}
-use Rattle.mast_join.proofs.columns.table_number.Given as goal
+use Rattle.mast_canon.proofs.columns.table_number.Given as goal
 
 -- the table is among those that are left
 abbrev pub invariant-loop-decl : goal.invariant-loop-decl

@@ -1,8 +1,8 @@
 use Rattle.std.proofs.Common.{◌≡◌, ◌++◌, drop}
 use Rattle.std.specs.Option.{option_map, option_to_list}
 use Rattle.mast_mapping.specs.Columns.{meanings}
-use Rattle.mast_join.specs.inside.Plans.{meaning}
-use Rattle.mast_join.proofs.columns.place_of.Given as goal
+use Rattle.mast_canon.specs.Places.{meaning}
+use Rattle.mast_canon.proofs.columns.place_of.Given as goal
 
 -- what is found and what the entries that are left have make the whole
 abbrev pub invariant-loop-entry : goal.invariant-loop-entry

@@ -1,6 +1,6 @@
 use Rattle.std.proofs.Common.{◌≡◌, drop}
 use Rattle.mast_mapping.specs.Columns.{column_named}
-use Rattle.mast_join.proofs.columns.column_named.Given as goal
+use Rattle.mast_canon.proofs.columns.column_named.Given as goal
 
 -- the column is among those that are left
 abbrev pub invariant-loop-column : goal.invariant-loop-column
