@@ -1,7 +1,9 @@
 -- Why a specification that is made keeps its condition.
 use Rattle.std.proofs.Common.{◌≡◌, List, [], subst, sym, arith}
 use Rattle.std.proofs.Math.Logic.{∥∥₁_map}
-use Rattle.std.specs.Prelude.{None}
+use Rattle.std.specs.Prelude.{Option, None, Result, Ok, Err, IsErrAnd}
+use Rattle.mast_terms.specs.declared.memory.Stop.{Stop}
+use Rattle.mast_terms.specs.declared.memory.Stop.TheVariants.{Named, NoMemory}
 use Rattle.mast_terms.specs.Vocabularies.{Lists}
 use Rattle.mast_mapping.specs.declared.map.Mappings.{Mappings}
 use Rattle.mast_mapping.specs.declared.split_map.SplitMap.{SplitMap}
@@ -10,13 +12,26 @@ use Rattle.mast_tbox.specs.declared.axiom.Inclusion.{Inclusion}
 use Rattle.mast_tbox.specs.declared.axiom.Lined.{Lined}
 use Rattle.mast_tbox.specs.declared.axiom.Negative.{Negative}
 use Rattle.mast_tbox.specs.declared.constraint.Constraint.{Constraint}
+use Rattle.mast_tbox.specs.declared.constraint.Constraints.{Constraints}
 use Rattle.mast_tbox.specs.declared.expression.Prop.{Prop}
+use Rattle.mast_tbox.specs.declared.restriction.RestrictionBreach.{RestrictionBreach}
+use Rattle.mast_tbox.specs.declared.tbox.Ontology.{Ontology}
 use Rattle.mast_tbox.specs.Restrictions.{IsRestrictionBreach}
 use Rattle.mast_canon.specs.Conditions.{AxiomsInRange, ConstraintsInRange, SplitInRange, HaveForm, SplitOverTables, HasNumbers}
 use Rattle.mast_tree.specs.Growing.{Begins}
-use Rattle.mast_canon.specs.Premises.{AreMappings}
+use Rattle.mast_canon.specs.Premises.{AreMappings, AreOneSpecification, IsRefusedAtBreach}
 use Rattle.mast_canon.proofs.GrowthLemmas.{axioms_stay, constraints_stay, maps_stay}
 use Rattle.mast_canon.proofs.OverLemmas.{split_in_range, split_over_tables, empty_unbreached}
+
+module _ (o : Ontology) (cs : Constraints) (ms : Mappings) (h : AreOneSpecification o cs ms) where
+  -- of three documents: the names of the axioms are in range of the last vocabulary
+  pub made_axioms : ∥ AxiomsInRange ms.vocab o.tbox.inclusions o.tbox.negatives o.tbox.functional ∥₁
+  made_axioms = ∣ axioms_stay ms.vocab cs.vocab h.second o.tbox.inclusions o.tbox.negatives o.tbox.functional
+      (axioms_stay cs.vocab o.vocab h.first o.tbox.inclusions o.tbox.negatives o.tbox.functional h.axioms) ∣₁
+
+  -- and the names and constants of the constraints
+  pub made_constraints : ∥ ConstraintsInRange ms.vocab cs.list ∥₁
+  made_constraints = ∣ constraints_stay ms.vocab cs.vocab h.second cs.list h.names ∣₁
 
 module _ (ms : Mappings) (maps : List SplitMap) (h : AreMappings ms) (e : maps ≡ split_maps ms.maps) where
   -- of a mapping document: the names of the heads are in range
@@ -67,3 +82,19 @@ none_numbered constraints e = rw e (omega arith)
 -- no breach
 pub no_breach : (inclusions : List (Lined Inclusion)) (functional : List (Lined Prop)) (constraints : List (Lined Constraint)) → inclusions ≡ [] → functional ≡ [] → constraints ≡ [] → ∥ IsRestrictionBreach inclusions functional constraints None ∥₁
 no_breach inclusions functional constraints i f e = rw (i, f, e) (∣ empty_unbreached ∣₁)
+
+-- the same breach of the same constraints
+pub same_breach : (inclusions : List (Lined Inclusion)) (functional : List (Lined Prop)) (constraints others : List (Lined Constraint)) (breach other : Option RestrictionBreach) → constraints ≡ others → breach ≡ other → IsRestrictionBreach inclusions functional constraints breach → IsRestrictionBreach inclusions functional others other
+same_breach inclusions functional constraints others breach other e f h =
+    subst (λ (b : Option RestrictionBreach). IsRestrictionBreach inclusions functional others b) f
+    (subst (λ (cs : List (Lined Constraint)). IsRestrictionBreach inclusions functional cs breach) e h)
+
+-- what stops the parts stops the whole
+stopped : (S T : Type 0) (o : Ontology) (cs : Constraints) (stop : Stop RestrictionBreach) → IsRefusedAtBreach {T = S} o cs (Err stop) → IsRefusedAtBreach {T = T} o cs (Err stop)
+stopped S T o cs (Named breach) h = h
+stopped S T o cs NoMemory h = tt
+
+-- so it does where the whole ends with the same stop
+pub stopped_too : (S T : Type 0) (o : Ontology) (cs : Constraints) (stop : Stop RestrictionBreach) (result : Result T (Stop RestrictionBreach)) → IsErrAnd result (λ e. e ≡ stop) → IsRefusedAtBreach {T = S} o cs (Err stop) → IsRefusedAtBreach o cs result
+stopped_too S T o cs stop (Ok made) same h = absurd same
+stopped_too S T o cs stop (Err e) same h = subst (λ (x : Stop RestrictionBreach). IsRefusedAtBreach {T = T} o cs (Err x)) (sym same) (stopped S T o cs stop h)
