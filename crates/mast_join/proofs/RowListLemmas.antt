@@ -21,6 +21,7 @@ use Rattle.mast_join.specs.inside.Partial.{MayHave, Once}
 use Rattle.mast_join.specs.inside.RowLists.{numbers_to, is_given, given, AreAllowed}
 use Rattle.mast_join.proofs.OnceLemmas.{once_append, stands_at, in_get}
 
+-- one of the numbers to n is from 1 to n
 pub numbers_in : (n r : ℕ) → In r (numbers_to n) → (1 ≤ r) × (r ≤ n)
 numbers_in zero r i = absurd i
 numbers_in (suc n) r i = elim (in_append r (numbers_to n) (suc n ∷ []) i) [
@@ -28,6 +29,7 @@ numbers_in (suc n) r i = elim (in_append r (numbers_to n) (suc n ∷ []) i) [
   | inr b ↦ elim b [ inl e ↦ (omega (arith, e), omega (arith, e)) | inr z ↦ absurd z ]
 ]
 
+-- a number from 1 to n is one of the numbers to n
 pub in_numbers : (n r : ℕ) → 1 ≤ r → r ≤ n → In r (numbers_to n)
 in_numbers zero r a b = absurd (omega arith)
 in_numbers (suc n) r a b = elim (cases_eq r (suc n)) [
