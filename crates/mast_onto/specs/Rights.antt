@@ -11,7 +11,7 @@ use Rattle.mast_expressions.specs.Pages.{Page, says, names, owl_thing}
 use Rattle.mast_expressions.specs.Judged.{class_judged, role_judged, left_judged}
 use Rattle.mast_expressions.specs.Given.{IsClassIn, IsRole, IsLeft}
 use Rattle.mast_onto.specs.Lists.{each}
-use Rattle.mast_onto.specs.declared.right.TheConstants.{MOST_NESTED}
+use Rattle.mast_tree.specs.declared.item.TheConstants.{MOST_OPEN}
 use Rattle.mast_onto.specs.declared.statement.Part.{Part}
 use Rattle.mast_onto.specs.declared.statement.Part.TheVariants as part
 
@@ -80,7 +80,7 @@ forms_within (suc depth) page item = opened page (forms_within depth page) item 
 
 -- the parts of a right side. No more intersections stand in one another than parentheses may be open
 abbrev pub right_forms : Page → Item → List PartForm
-right_forms page item = forms_within MOST_NESTED page item
+right_forms page item = forms_within MOST_OPEN page item
 
 -- what is judged of a part
 abbrev pub part_judged : Page → PartForm → List Judgement
