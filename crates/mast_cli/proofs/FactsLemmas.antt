@@ -1,132 +1,118 @@
--- The facts of rows, and their lines.
-use Rattle.std.proofs.Common.{◌≡◌, ◌<◌, ◌+◌, ◌-◌, ◌++◌, ◌⊎◌, ℕ, zero, suc, List, [], ◌∷◌, Option, Some, None, map, length, drop, get_or, option_map, Contains, subst, sym, ap, ◌∙◌, refl, inl, inr, arith, append_assoc}
-use Rattle.std.proofs.lemmas.List.{drop_more, map-append}
-use Rattle.std.proofs.lemmas.List.Folds.{concat-append}
-use Rattle.std.proofs.lemmas.List.Elements.{Contains-append_cases, Contains-append_left, Contains-append_right}
-use Rattle.std.specs.List.{concat}
-use Rattle.mast_terms.specs.declared.value.Value.{Value}
+-- What the parts of `facts` tell together.
+use Rattle.std.proofs.Common.{◌≡◌, inl, inr, ℕ, List, ◌++◌, Option, Some, None, IfSome, subst, refl, sym, ◌∙◌}
+use Rattle.std.specs.List.{AllByRecursion}
+use Rattle.mast_canon.specs.Premises.{AreMappings}
+use Rattle.mast_canon.proofs.OverLemmas.{split_in_range, split_over_tables}
+use Rattle.mast_files.specs.Outside.{Contents, Reading}
+use Rattle.mast_mapping.specs.declared.map.Mappings.{Mappings}
+use Rattle.mast_mapping.specs.declared.split_map.SplitMap.{SplitMap}
+use Rattle.mast_mapping.specs.Split.{split_maps}
+use Rattle.mast_tables.specs.declared.declaration.TableDecl.{TableDecl}
 use Rattle.mast_tables.specs.Rows.{Row}
-use Rattle.mast_cli.specs.declared.mapping.Mapping.{Mapping}
-use Rattle.mast_cli.specs.Facts.{Fact, cells_in, fact_of, Supports, fact_line, IsFactLine}
-use Rattle.mast_cli.specs.LinesText.{lines_text, IsTextOf}
-use Rattle.mast_cli.specs.inside.FactLines.{all_values, lines_from, row_lines, rows_lines, pieces, IsSetOf}
-use Rattle.mast_cli.proofs.LinesLemmas.{pieces_concat}
+use Rattle.mast_terms.specs.Vocabularies.{Lists}
+use Rattle.mast_write.specs.LineText.{IsTextOf}
+use Rattle.mast_cli.specs.declared.judged.Judged.{Judged}
+use Rattle.mast_cli.specs.declared.judged.Part.{Part}
+use Rattle.mast_cli.specs.declared.judged.Part.TheVariants as part
+use Rattle.mast_cli.specs.declared.limits.TheConstants.{TABLE_BYTES, ROWS}
+use Rattle.mast_cli.specs.declared.status.Status.TheVariants as st
+use Rattle.mast_cli.specs.command.Facts.{FactsStages, IsLineOfFact}
+use Rattle.mast_cli.specs.FirstEvent.{Trail}
+use Rattle.mast_cli.specs.Outcome.{EndsIn, FactsOutcome}
+use Rattle.mast_cli.specs.stage.Document.{MappingsStage}
+use Rattle.mast_cli.specs.stage.Tables.{TablesStages}
+use Rattle.mast_cli.specs.inside.Causes.{PartHasCause}
+use Rattle.mast_cli.specs.inside.FactLines.{AreMaps, IsLineOf}
+use Rattle.mast_cli.specs.inside.Loading.{IsNumbered}
+use Rattle.mast_cli.specs.inside.Telling.{Ends, IfRead, JudgesIn, TellsFacts, TellsPart}
+use Rattle.mast_cli.proofs.FactsTextLemmas.{text_of_facts}
+use Rattle.mast_cli.proofs.MappingsLemmas.{one_mappings}
+use Rattle.mast_cli.proofs.TablesLemmas.{FilesHaveAnswers, one_from}
+use Rattle.mast_cli.proofs.TellingLemmas.{ends_more, first_ended, next_ended}
 
--- cells that are all there have their values
-values_there : (args : List Value) → all_values (map (λ value. Some value) args) ≡ Some args
-values_there [] = refl
-values_there (value ∷ args) = ap (option_map (λ (values : List Value). value ∷ values)) (values_there args)
+module _ (any : FilesHaveAnswers) (contents : Contents) (file : List ℕ) where
+  abbrev Next : Mappings → Trail → Option (List (List Row)) → Type 0
+  Next mappings = TablesStages contents mappings.tables
 
-some_same : (a b : List Value) → Some a ≡ Some b → a ≡ b
-some_same a b e = cc
+  as_facts : (reading : Reading) (judged : Judged) → Ends (EndsIn (FactsStages contents file)) (JudgesIn (FactsStages contents file)) reading judged → TellsFacts file reading contents judged
+  as_facts reading judged h =
+      ends_more (EndsIn (FactsStages contents file)) (FactsOutcome contents file) (JudgesIn (FactsStages contents file)) (JudgesIn (FactsStages contents file)) reading judged.status judged.text.items
+      (λ status text k. inl k) (λ name k. k) h
 
-values_after : (value : Value) (cells : List (Option Value)) (args : List Value) (found : Option (List Value)) → all_values cells ≡ found → ((rest : List Value) → all_values cells ≡ Some rest → cells ≡ map (λ v. Some v) rest) → option_map (λ values. value ∷ values) found ≡ Some args → (Some value ∷ cells) ≡ map (λ v. Some v) args
-values_after value cells args None q ih h = absurd (cc)
-values_after value cells args (Some rest) q ih h =
-    ap (λ (cs : List (Option Value)). Some value ∷ cs) (ih rest q) ∙ ap (map (λ (v : Value). Some v)) (some_same (value ∷ rest) args h)
+  mappings_end : (reading : Reading) (judged : Judged) → Ends (EndsIn (MappingsStage contents file)) (JudgesIn (MappingsStage contents file)) reading judged → TellsFacts file reading contents judged
+  mappings_end reading judged h =
+      as_facts reading judged
+      (first_ended (MappingsStage contents file) Next (one_mappings contents file) (λ m. one_from any contents TABLE_BYTES ROWS m.tables) reading judged h)
 
-values_only : (cells : List (Option Value)) (args : List Value) → all_values cells ≡ Some args → cells ≡ map (λ value. Some value) args
-values_only [] args h = ap (map (λ (v : Value). Some v)) (some_same [] args h)
-values_only (None ∷ cells) args h = absurd (cc)
-values_only (Some value ∷ cells) args h = values_after value cells args (all_values cells) refl (λ rest q. values_only cells rest q) h
+  tables_end : (mappings : Mappings) (before : Trail) → MappingsStage contents file before (Some mappings) → (reading : Reading) (judged : Judged)
+      → Ends (EndsIn (TablesStages contents mappings.tables)) (JudgesIn (TablesStages contents mappings.tables)) reading judged → TellsFacts file reading contents judged
+  tables_end mappings before h reading judged g =
+      as_facts reading judged
+      (next_ended (MappingsStage contents file) Next (one_mappings contents file) (λ m. one_from any contents TABLE_BYTES ROWS m.tables) mappings before h reading judged g)
 
--- a line of a row, counted from 0
-record IsLineAt (m : Mapping) (rows : List Row) (line : List ℕ) : Type 0 where
-  row : ℕ
-  within : row < length rows
-  fact : Fact
-  supports : Supports m (get_or rows row []) fact
-  is : line ≡ fact_line fact
+-- the mapping document ends the run
+pub mappings_ended : FilesHaveAnswers → (told : Option Contents) (file : List ℕ) (reading : Reading) (first : Part Mappings) (judged : Judged) → first ≡ part.Ended judged
+    → IfSome told (λ c. TellsPart (MappingsStage c file) reading first) → IfSome told (λ c. TellsFacts file reading c judged)
+mappings_ended any None file reading first judged e h = tt
+mappings_ended any (Some contents) file reading first judged e h =
+    mappings_end any contents file reading judged (subst (λ p. TellsPart (MappingsStage contents file) reading p) e h)
 
-one_line : (only line : List ℕ) (k : ℕ) → k < 1 → get_or (only ∷ []) k line ≡ line → line ≡ only
-one_line only line zero lt is = sym is
-one_line only line (suc k) lt is = absurd (omega arith)
+-- what is told of the tables of declarations is told of those of the mappings
+of_mappings : (told later : Option Contents) (mappings : Mappings) (decls : List TableDecl) (reading : Reading) (second : Part (List (List Row))) → later ≡ told → decls ≡ mappings.tables
+    → IfSome later (λ c. TellsPart (TablesStages c decls) reading second) → IfSome told (λ c. TellsPart (TablesStages c mappings.tables) reading second)
+of_mappings told later mappings decls reading second kept declared h =
+    subst (λ ds. IfSome told (λ c. TellsPart (TablesStages c ds) reading second)) declared (subst (λ o. IfSome o (λ c. TellsPart (TablesStages c decls) reading second)) kept h)
 
-row_found : (m : Mapping) (row : Row) (rows : List Row) (line : List ℕ) (found : Option (List Value)) → all_values (cells_in m.slots row) ≡ found → Contains (lines_from m found) line → IsLineAt m (row ∷ rows) line
-row_found m row rows line None q h = absurd (omega (h.1, arith))
-row_found m row rows line (Some args) q h = record {
-  row = 0;
-  within = omega arith;
-  fact = fact_of m args;
-  supports = record { args = args; cells = values_only (cells_in m.slots row) args q; is = refl };
-  is = one_line (fact_line (fact_of m args)) line h.0 h.1 h.2;
-}
+-- a table ends it
+pub tables_ended : FilesHaveAnswers → (told later : Option Contents) (file : List ℕ) (before reading : Reading) (first : Part Mappings) (mappings : Mappings) (decls : List TableDecl) (second : Part (List (List Row))) (judged : Judged)
+    → later ≡ told → decls ≡ mappings.tables → first ≡ part.Read mappings → second ≡ part.Ended judged
+    → IfSome told (λ c. TellsPart (MappingsStage c file) before first) → IfSome later (λ c. TellsPart (TablesStages c decls) reading second)
+    → IfSome told (λ c. TellsFacts file reading c judged)
+tables_ended any None later file before reading first mappings decls second judged kept declared read ended h g = tt
+tables_ended any (Some contents) later file before reading first mappings decls second judged kept declared read ended h g =
+    let front = subst (λ p. TellsPart (MappingsStage contents file) before p) read h in
+    let rest = of_mappings (Some contents) later mappings decls reading second kept declared g in
+    tables_end any contents file mappings front.0 front.1 reading judged (subst (λ p. TellsPart (TablesStages contents mappings.tables) reading p) ended rest)
 
-found_later : (m : Mapping) (row : Row) (rows : List Row) (line : List ℕ) → IsLineAt m rows line → IsLineAt m (row ∷ rows) line
-found_later m row rows line h = record { row = suc h.row; within = omega (h.within, arith); fact = h.fact; supports = h.supports; is = h.is }
+-- what a specification has of mappings
 
-found_either : (m : Mapping) (row : Row) (rows : List Row) (line : List ℕ) → Contains (row_lines m row) line ⊎ Contains (rows_lines m rows) line → (Contains (rows_lines m rows) line → IsLineAt m rows line) → IsLineAt m (row ∷ rows) line
-found_either m row rows line (inl h) ih = row_found m row rows line (all_values (cells_in m.slots row)) refl h
-found_either m row rows line (inr h) ih = found_later m row rows line (ih h)
+module _ (mappings : Mappings) (vocab : Lists) (decls : List TableDecl) (maps : List SplitMap) (named : vocab ≡ mappings.vocab) (declared : decls ≡ mappings.tables) (split : maps ≡ split_maps mappings.maps) where
+  -- the split mappings are over its tables
+  pub are_maps : (first : Part Mappings) → first ≡ part.Read mappings → IfRead AreMappings first → AreMaps vocab decls maps
+  are_maps first read h =
+      let are = subst (IfRead AreMappings) read h in
+      let of : AreMaps mappings.vocab mappings.tables (split_maps mappings.maps) = record {
+        named = split_in_range mappings.vocab mappings.maps are.names;
+        over = split_over_tables mappings.tables mappings.maps are.over;
+        numbered = are.tables;
+      } in
+      subst (λ v. AreMaps v decls maps) (sym named) (subst (λ ds. AreMaps mappings.vocab ds maps) (sym declared) (subst (λ ms. AreMaps mappings.vocab mappings.tables ms) (sym split) of))
 
-line_found : (m : Mapping) (rows : List Row) (line : List ℕ) → Contains (rows_lines m rows) line → IsLineAt m rows line
-line_found m [] line h = absurd (omega (h.1, arith))
-line_found m (row ∷ rows) line h = found_either m row rows line (Contains-append_cases (row_lines m row) (rows_lines m rows) line h) (λ g. line_found m rows line g)
+  -- their lines are those of the facts
+  pub same_facts : (tables : List (List Row)) (text : List ℕ) → IsTextOf (IsLineOf vocab decls tables maps) text → IsTextOf (IsLineOfFact (mappings, tables)) text
+  same_facts tables text h =
+      text_of_facts (mappings, tables) text
+      (subst (λ ms. IsTextOf (IsLineOf mappings.vocab mappings.tables tables ms) text) split
+      (subst (λ ds. IsTextOf (IsLineOf mappings.vocab ds tables maps) text) declared (subst (λ v. IsTextOf (IsLineOf v decls tables maps) text) named h)))
 
-only_line : (line : List ℕ) → Contains (line ∷ []) line
-only_line line = (0, omega arith, refl)
+-- the columns of the tables have numbers
+pub tables_numbered : (mappings : Mappings) (decls slice : List TableDecl) → decls ≡ mappings.tables → slice ≡ decls → (first : Part Mappings) → first ≡ part.Read mappings → IfRead AreMappings first → AllByRecursion IsNumbered slice
+tables_numbered mappings decls slice declared same first read h =
+    let are = subst (IfRead AreMappings) read h in
+    subst (λ ds. AllByRecursion IsNumbered ds) (sym (same ∙ declared)) are.tables.of_columns
 
-row_given : (m : Mapping) (row : Row) (fact : Fact) → Supports m row fact → Contains (row_lines m row) (fact_line fact)
-row_given m row fact s =
-    let whole = ap all_values s.cells ∙ values_there s.args in
-    let same = ap (λ (found : Option (List Value)). lines_from m found) whole ∙ ap (λ (f : Fact). fact_line f ∷ []) (sym s.is) in
-    subst (λ (ls : List (List ℕ)). Contains ls (fact_line fact)) (sym same) (only_line (fact_line fact))
+-- nothing ends it before the text of the facts
+pub facts_done : (told later : Option Contents) (file : List ℕ) (before after : Reading) (first : Part Mappings) (mappings : Mappings) (decls : List TableDecl) (second : Part (List (List Row))) (tables : List (List Row)) (text : List ℕ)
+    → later ≡ told → decls ≡ mappings.tables → first ≡ part.Read mappings → second ≡ part.Read tables
+    → IfSome told (λ c. TellsPart (MappingsStage c file) before first) → IfSome later (λ c. TellsPart (TablesStages c decls) after second)
+    → IsTextOf (IsLineOfFact (mappings, tables)) text
+    → IfSome told (λ c. FactsOutcome c file st.Done text)
+facts_done None later file before after first mappings decls second tables text kept declared read done h g facts = tt
+facts_done (Some contents) later file before after first mappings decls second tables text kept declared read done h g facts =
+    let front = subst (λ p. TellsPart (MappingsStage contents file) before p) read h in
+    let rest = subst (λ p. TellsPart (TablesStages contents mappings.tables) after p) done (of_mappings (Some contents) later mappings decls after second kept declared g) in
+    inr (front.0 ++ rest.0, (mappings, tables), (front.0, rest.0, front.1, rest.1, refl), (refl, facts))
 
-line_given : (m : Mapping) (rows : List Row) (fact : Fact) (i : ℕ) → i < length rows → Supports m (get_or rows i []) fact → Contains (rows_lines m rows) (fact_line fact)
-line_given m [] fact i lt s = absurd (omega arith)
-line_given m (row ∷ rows) fact zero lt s = Contains-append_left (row_lines m row) (rows_lines m rows) (fact_line fact) (row_given m row fact s)
-line_given m (row ∷ rows) fact (suc i) lt s = Contains-append_right (row_lines m row) (rows_lines m rows) (fact_line fact) (line_given m rows fact i (omega arith) s)
-
--- each line of the rows is the line of a fact
-is_fact_line : (m : Mapping) (rows : List Row) (line : List ℕ) → IsLineAt m rows line → IsFactLine m rows line
-is_fact_line m rows line h =
-    let back : h.row ≡ suc h.row - 1 = omega arith in
-    record {
-      fact = h.fact;
-      given = record { row = suc h.row; member = tt; from = omega arith; to = omega (h.within, arith); supports = subst (λ (k : ℕ). Supports m (get_or rows k []) h.fact) back h.supports };
-      is = h.is;
-    }
-
--- each line of a fact is a line of the rows
-has_fact_line : (m : Mapping) (rows : List Row) (line : List ℕ) → IsFactLine m rows line → Contains (rows_lines m rows) line
-has_fact_line m rows line h =
-    let g = h.given in
-    subst (λ (l : List ℕ). Contains (rows_lines m rows) l) (sym h.is) (line_given m rows h.fact (g.row - 1) (omega (g.from, g.to, arith)) g.supports)
-
--- the lines of the rows as a set are the lines of the facts
-pub facts_are : (m : Mapping) (rows : List Row) (bytes lengths text : List ℕ) (cut new : List (List ℕ)) → bytes ≡ concat (rows_lines m rows) → lengths ≡ map length (rows_lines m rows) → cut ≡ pieces lengths bytes → IsSetOf cut new → text ≡ lines_text new → IsTextOf (IsFactLine m rows) text
-facts_are m rows bytes lengths text cut new eb el ec s et =
-    let whole : cut ≡ rows_lines m rows = ec ∙ ap (λ (ns : List ℕ). pieces ns bytes) el ∙ ap (pieces (map length (rows_lines m rows))) eb ∙ pieces_concat (rows_lines m rows) in
-    record {
-      lines = new;
-      sorted = s.sorted;
-      each = λ line h. is_fact_line m rows line (line_found m rows line (subst (λ (ls : List (List ℕ)). Contains ls line) whole (s.each line h)));
-      all = λ line h. s.all line (subst (λ (ls : List (List ℕ)). Contains ls line) (sym whole) (has_fact_line m rows line h));
-      is = et;
-    }
-
--- the lines of the rows after the first i
-rows_at : (m : Mapping) (rows : List Row) (i : ℕ) → i < length rows → rows_lines m (drop i rows) ≡ row_lines m (get_or rows i []) ++ rows_lines m (drop (i + 1) rows)
-rows_at m rows i lt = ap (rows_lines m) (drop_more rows i [] lt)
-
--- the bytes of the row after the first i come after the bytes of these
-pub bytes_more : (m : Mapping) (rows : List Row) (i k : ℕ) (old new whole : List ℕ) → i < length rows → k ≡ i → new ≡ old ++ concat (row_lines m (get_or rows k [])) → old ++ concat (rows_lines m (drop i rows)) ≡ whole → new ++ concat (rows_lines m (drop (i + 1) rows)) ≡ whole
-bytes_more m rows i k old new whole lt at e h =
-    let row = get_or rows i [] in
-    let rest = rows_lines m (drop (i + 1) rows) in
-    let new_is : new ≡ old ++ concat (row_lines m row) = e ∙ ap (λ (n : ℕ). old ++ concat (row_lines m (get_or rows n []))) at in
-    ap (λ (l : List ℕ). l ++ concat rest) new_is
-    ∙ append_assoc old (concat (row_lines m row)) (concat rest)
-    ∙ ap (λ (l : List ℕ). old ++ l) (sym (ap concat (rows_at m rows i lt) ∙ concat-append (row_lines m row) rest))
-    ∙ h
-
--- and its lengths after their lengths
-pub lengths_more : (m : Mapping) (rows : List Row) (i k : ℕ) (old new whole : List ℕ) → i < length rows → k ≡ i → new ≡ old ++ map length (row_lines m (get_or rows k [])) → old ++ map length (rows_lines m (drop i rows)) ≡ whole → new ++ map length (rows_lines m (drop (i + 1) rows)) ≡ whole
-lengths_more m rows i k old new whole lt at e h =
-    let row = get_or rows i [] in
-    let rest = rows_lines m (drop (i + 1) rows) in
-    let new_is : new ≡ old ++ map length (row_lines m row) = e ∙ ap (λ (n : ℕ). old ++ map length (row_lines m (get_or rows n []))) at in
-    ap (λ (l : List ℕ). l ++ map length rest) new_is
-    ∙ append_assoc old (map length (row_lines m row)) (map length rest)
-    ∙ ap (λ (l : List ℕ). old ++ l) (sym (ap (map length) (rows_at m rows i lt) ∙ map-append length (row_lines m row) rest))
-    ∙ h
+-- a part that read what it is to read has left the count of faults
+pub no_fault : {T : Type 0} (before now : ℕ) (reading : Reading) (what : Part T) (x : T) → what ≡ part.Read x → PartHasCause before now reading what → now ≡ before
+no_fault before now reading what x read h = subst (PartHasCause before now reading) read h

@@ -1,36 +1,27 @@
--- How what a stage tells of bytes becomes what a run tells of files.
-use Rattle.std.proofs.Common.{◌≡◌, ◌∙◌, ◌+◌, ◌-◌, ◌≤◌, ℕ, List, [], ◌++◌, Option, Some, None, Result, Ok, Err, IfOk, IfSome, length, take, subst, sym, inl, inr, refl, arith}
+-- How what the parts of a run tell becomes what the run tells.
+use Rattle.std.proofs.Common.{◌≡◌, ◌∙◌, ◌+◌, ◌-◌, ◌≤◌, ℕ, List, [], ◌∷◌, ◌++◌, Option, Some, None, Result, Ok, Err, IfOk, IfSome, length, take, subst, sym, inl, inr, refl, arith}
 use Rattle.std.proofs.lemmas.List.{length-append}
+use Rattle.mast_terms.specs.Answers.{Answers}
 use Rattle.mast_terms.specs.declared.memory.NoMemory.{NoMemory}
 use Rattle.mast_terms.specs.declared.memory.Stop.{Stop}
 use Rattle.mast_terms.specs.declared.memory.Stop.TheVariants as stop
-use Rattle.mast_tree.specs.declared.item.Item.{Item}
-use Rattle.mast_tree.specs.declared.token.Token.{Token}
-use Rattle.mast_terms.specs.Answers.{Answers}
-use Rattle.mast_tree.specs.Source.{AreTokens}
-use Rattle.mast_tree.specs.Trees.{IsTree}
-use Rattle.mast_cli.specs.Endings.{IsOf}
-use Rattle.mast_cli.specs.Lines.{unbuilt}
-use Rattle.mast_cli.specs.MappingForm.{Said, said}
-use Rattle.mast_cli.specs.Mappings.{IsForm}
 use Rattle.mast_files.specs.Causes.{Rose}
 use Rattle.mast_files.specs.Outside.{Contents, Reading, Writing, Tells, Gains}
 use Rattle.mast_files.specs.States.{SoundFilesState, SoundSinkState, left_within}
 use Rattle.mast_files.proofs.OutsideLemmas.{Tells-told}
-use Rattle.mast_tables.specs.Rows.{Row}
+use Rattle.mast_write.specs.declared.refusals.Refusal.{Refusal}
 use Rattle.mast_cli.specs.declared.judged.Judged.{Judged}
-use Rattle.mast_cli.specs.declared.judged.Stage.{Stage}
-use Rattle.mast_cli.specs.declared.judged.Stage.TheVariants as stage
-use Rattle.mast_cli.specs.declared.limits.TheConstants.{MAPPING_BYTES}
-use Rattle.mast_cli.specs.declared.mapping.Mapping.{Mapping}
+use Rattle.mast_cli.specs.declared.judged.Part.{Part}
+use Rattle.mast_cli.specs.declared.judged.Part.TheVariants as part
 use Rattle.mast_cli.specs.declared.status.Status.{Status}
 use Rattle.mast_cli.specs.declared.status.Status.TheVariants as st
-use Rattle.mast_cli.specs.inside.Causes.{HasCause, JudgedHasCause, StageIsEvent}
-use Rattle.mast_cli.specs.Facts.{IsFactLine}
+use Rattle.mast_cli.specs.FirstEvent.{Trail, IsJudgedIn, Reads, Then}
+use Rattle.mast_cli.specs.Limits.{status_of}
+use Rattle.mast_cli.specs.Outcome.{EndsIn, Outcome, Judges}
 use Rattle.mast_cli.specs.Run.{Words, IsAnswer, FailedFile, GivesOutcome, GivesFront, GivesPart, WritesSoundly, TellsText}
-use Rattle.mast_cli.specs.LinesText.{IsTextOf}
-use Rattle.mast_cli.specs.Outcome.{Declares, DocumentEvent, HasMapping, MappingsEvent, HasTable, TableEvent, FactsOutcome, JudgesOf, Outcome, Judges}
-use Rattle.mast_cli.specs.inside.Telling.{EndsAs, TellsBytes, TellsFile, TellsFacts, TellsRun}
+use Rattle.mast_cli.specs.inside.Causes.{HasCause, JudgedHasCause}
+use Rattle.mast_cli.specs.inside.Telling.{AtEvent, EndsAs, Ends, JudgesIn, PartAt, TellsBytes, TellsPart, TellsRun}
+use Rattle.mast_cli.proofs.FirstEventLemmas.{HasOneEnd, first-append, judged-later, judged-before}
 
 -- an event ends a run as P
 pub ends_event : (P : Status → List ℕ → Type 0) (Q : List ℕ → Type 0) (reading : Reading) (status : Status) (text : List ℕ) → IsAnswer status → P status text → EndsAs P Q reading status text
@@ -56,55 +47,100 @@ ends_more P P' Q Q' reading st.ReadFault text p q h = (h.0, h.1, q h.0 h.2)
 ends_more P P' Q Q' reading st.WriteFault text p q h = p st.WriteFault text h
 ends_more P P' Q Q' reading st.NoMemory text p q h = p st.NoMemory text h
 
--- a stage on bytes that were read tells of the file
-pub file_of : {T : Type 0} (Has Has' : T → Type 0) (Event Event' : Status → List ℕ → Type 0) (name : List ℕ) (reading : Reading) (what : Stage T) → ((x : T) → Has x → Has' x) → ((s : Status) (t : List ℕ) → Event s t → Event' s t) → StageIsEvent what → TellsBytes Has Event what → TellsFile Has' Event' name reading what
-file_of Has Has' Event Event' name reading (stage.Read x) has event answer h = has x h
-file_of Has Has' Event Event' name reading (stage.Ended judged) has event answer h = ends_event Event' (λ current. current ≡ name) reading judged.status judged.text.items answer (event judged.status judged.text.items h)
+-- what ends at an event of bytes tells of them
+pub ends_bytes : {T : Type 0} (P : T → Type 0) (Q : Refusal → Type 0) (event : Refusal) (r : Result (Part T) NoMemory) → Q event → IfOk r (PartAt event) → IfOk r (TellsBytes P Q)
+ends_bytes P Q event (Err e) q h = tt
+ends_bytes P Q event (Ok (part.Read x)) q h = absurd h
+ends_bytes P Q event (Ok (part.Ended judged)) q h = (event, q, h)
 
--- what a mapping document's bytes tell is told of its file
-pub mappings_told : (told : Option Contents) (name bytes items : List ℕ) (rest : Option (List ℕ)) (reading : Reading) (r : Result (Stage Mapping) NoMemory)
-    → bytes ≡ items → IfSome told (λ contents. (items ≡ contents name) × (rest ≡ Some [])) → length items ≤ MAPPING_BYTES
-    → IfOk r (TellsBytes (Declares bytes) (DocumentEvent bytes)) → IfOk r StageIsEvent
-    → IfOk r (λ what. IfSome told (λ contents. TellsFile (HasMapping (contents name)) (MappingsEvent (contents name)) name reading what))
-mappings_told told name bytes items rest reading (Err e) same read within tells event = tt
-mappings_told None name bytes items rest reading (Ok what) same read within tells event = tt
-mappings_told (Some contents) name bytes items rest reading (Ok what) same read within tells event =
-    let all = same ∙ read.0 in
-    let few : length bytes ≤ MAPPING_BYTES = subst (λ b. length b ≤ MAPPING_BYTES) (sym same) within in
-    file_of (Declares bytes) (HasMapping (contents name)) (DocumentEvent bytes) (MappingsEvent (contents name)) name reading what
-    (λ mapping h. subst (λ b. HasMapping b mapping) all (few, h))
-    (λ status text h. subst (λ b. MappingsEvent b status text) all (inr (few, h)))
-    event tells
+-- the refusal of which an answer tells
+pub refusal_of : {T E : Type 0} (P : T → Type 0) (Q : E → Type 0) (stopped : Stop E) (refusal : E) → stopped ≡ stop.Named refusal → Answers {T = T} (Err stopped) P Q → Q refusal
+refusal_of {T} P Q stopped refusal is h = subst (λ s. Answers {T = T} (Err s) P Q) is h
 
--- a table that ends the run, after a mapping document without an event
-pub table_ended : (told later : Option Contents) (file : List ℕ) (before reading : Reading) (first : Stage Mapping) (mapping : Mapping) (second : Stage (List Row)) (judged : Judged)
-    → later ≡ told → first ≡ stage.Read mapping → second ≡ stage.Ended judged
-    → IfSome told (λ contents. TellsFile (HasMapping (contents file)) (MappingsEvent (contents file)) file before first)
-    → IfSome later (λ contents. TellsFile (HasTable mapping.table (contents mapping.table.file)) (TableEvent mapping.table (contents mapping.table.file)) mapping.table.file reading second)
-    → IfSome told (λ contents. TellsFacts file reading contents judged)
-table_ended None later file before reading first mapping second judged kept read ended mappings table = tt
-table_ended (Some contents) later file before reading first mapping second judged kept read ended mappings table =
-    let has = subst (λ s. TellsFile (HasMapping (contents file)) (MappingsEvent (contents file)) file before s) read mappings in
-    let what = subst (λ o. IfSome o (λ contents. TellsFile (HasTable mapping.table (contents mapping.table.file)) (TableEvent mapping.table (contents mapping.table.file)) mapping.table.file reading second)) kept table in
-    let ends = subst (λ s. TellsFile (HasTable mapping.table (contents mapping.table.file)) (TableEvent mapping.table (contents mapping.table.file)) mapping.table.file reading s) ended what in
-    ends_more (TableEvent mapping.table (contents mapping.table.file)) (FactsOutcome contents file) (λ current. current ≡ mapping.table.file) (JudgesOf contents file) reading judged.status judged.text.items
-    (λ status text h. inr (mapping, has, inl h))
-    (λ name same. inr (mapping, has, same))
-    ends
+-- a stage that reads a file
 
--- the text of the facts, after a mapping document and a table without an event
-pub facts_done : (told later : Option Contents) (file : List ℕ) (before after : Reading) (first : Stage Mapping) (mapping : Mapping) (second : Stage (List Row)) (rows : List Row) (text : List ℕ)
-    → later ≡ told → first ≡ stage.Read mapping → second ≡ stage.Read rows
-    → IfSome told (λ contents. TellsFile (HasMapping (contents file)) (MappingsEvent (contents file)) file before first)
-    → IfSome later (λ contents. TellsFile (HasTable mapping.table (contents mapping.table.file)) (TableEvent mapping.table (contents mapping.table.file)) mapping.table.file after second)
-    → IsTextOf (IsFactLine mapping rows) text
-    → IfSome told (λ contents. FactsOutcome contents file st.Done text)
-facts_done None later file before after first mapping second rows text kept read done mappings table facts = tt
-facts_done (Some contents) later file before after first mapping second rows text kept read done mappings table facts =
-    let has = subst (λ s. TellsFile (HasMapping (contents file)) (MappingsEvent (contents file)) file before s) read mappings in
-    let what = subst (λ o. IfSome o (λ contents. TellsFile (HasTable mapping.table (contents mapping.table.file)) (TableEvent mapping.table (contents mapping.table.file)) mapping.table.file after second)) kept table in
-    let holds = subst (λ s. TellsFile (HasTable mapping.table (contents mapping.table.file)) (TableEvent mapping.table (contents mapping.table.file)) mapping.table.file after s) done what in
-    inr (mapping, has, inr (rows, holds, refl, facts))
+-- a stage that reads a file judges it
+pub reads_judged : {A : Type 0} (name : List ℕ) (HasEvent : Refusal → Type 0) (Has : A → Type 0) (stages : Trail) (end : Option A) → Reads name HasEvent Has stages end → IsJudgedIn stages name
+reads_judged name HasEvent Has stages None h = subst (λ s. IsJudgedIn s name) (sym h.2) (inl refl)
+reads_judged name HasEvent Has stages (Some x) h = subst (λ s. IsJudgedIn s name) (sym h.1) (inl refl)
+
+reads_ends : {A : Type 0} (name : List ℕ) (HasEvent : Refusal → Type 0) (Has : A → Type 0) (status : Status) (text : List ℕ) → AtEvent HasEvent status text → EndsIn (Reads name HasEvent Has) status text
+reads_ends name HasEvent Has status text h = (record { file = Some name; event = Some h.0 } ∷ [], h.0, (h.0, h.1, refl), refl, h.2)
+
+-- an end at an event of which more holds
+pub at_more : (P Q : Refusal → Type 0) → ((event : Refusal) → P event → Q event) → (status : Status) (text : List ℕ) → AtEvent P status text → AtEvent Q status text
+at_more P Q more status text h = (h.0, more h.0 h.1, h.2)
+
+module _ {A : Type 0} (name : List ℕ) (HasEvent : Refusal → Type 0) (Has : A → Type 0) (one : HasOneEnd (Reads name HasEvent Has)) where
+  abbrev Stage : Trail → Option A → Type 0
+  Stage stages end = Reads name HasEvent Has stages end
+
+  pub reads_judges : (current : List ℕ) → current ≡ name → JudgesIn Stage current
+  reads_judges current same =
+      let some = one.some in
+      (some.0, some.1, some.2, subst (λ n. IsJudgedIn some.0 n) (sym same) (reads_judged name HasEvent Has some.0 some.1 some.2))
+
+  -- the stage ends at an event that is found as the file is read, or at a fault of the file
+  pub reads_ended : (P : Refusal → Type 0) (reading : Reading) (judged : Judged) → ((event : Refusal) → P event → HasEvent event)
+      → Ends (AtEvent P) (λ current. current ≡ name) reading judged → Ends (EndsIn Stage) (JudgesIn Stage) reading judged
+  reads_ended P reading judged more h =
+      ends_more (AtEvent P) (EndsIn Stage) (λ current. current ≡ name) (JudgesIn Stage) reading judged.status judged.text.items
+      (λ status text k. reads_ends name HasEvent Has status text (at_more P HasEvent more status text k))
+      reads_judges h
+
+  -- what the content tells is told of the stage
+  pub reads_told : (P : A → Type 0) (Q : Refusal → Type 0) (reading : Reading) (what : Part A) → ((x : A) → P x → Has x) → ((event : Refusal) → Q event → HasEvent event)
+      → ((event : Refusal) → Q event → IsAnswer (status_of event)) → TellsBytes P Q what → TellsPart Stage reading what
+  reads_told P Q reading (part.Read x) has more answers h = (record { file = Some name; event = None } ∷ [], (has x h, refl))
+  reads_told P Q reading (part.Ended judged) has more answers h =
+      ends_event (EndsIn Stage) (JudgesIn Stage) reading judged.status judged.text.items
+      (subst IsAnswer (sym h.2.0) (answers h.0 h.1))
+      (reads_ends name HasEvent Has judged.status judged.text.items (h.0, more h.0 h.1, h.2))
+
+-- two parts of a run
+
+module _ {A B : Type 0} (First : Trail → Option A → Type 0) (Next : A → Trail → Option B → Type 0) (first : HasOneEnd First) (next : (x : A) → HasOneEnd (Next x)) where
+  abbrev Both : Trail → Option (A × B) → Type 0
+  Both stages end = Then First Next stages end
+
+  judges_front : (name : List ℕ) (x : A) (before after : Trail) (end : Option B) → First before (Some x) → Next x after end → IsJudgedIn before name → JudgesIn Both name
+  judges_front name x before after None h g judged = (before ++ after, None, inr (x, before, after, h, g, refl), judged-before before after name judged)
+  judges_front name x before after (Some y) h g judged = (before ++ after, Some (x, y), (before, after, h, g, refl), judged-before before after name judged)
+
+  judges_first : (name : List ℕ) (stages : Trail) (end : Option A) → First stages end → IsJudgedIn stages name → JudgesIn Both name
+  judges_first name stages None h judged = (stages, None, inl h, judged)
+  judges_first name stages (Some x) h judged =
+      let rest = (next x).some in
+      judges_front name x stages rest.0 rest.1 h rest.2 judged
+
+  judges_next : (name : List ℕ) (x : A) (before after : Trail) (end : Option B) → First before (Some x) → Next x after end → IsJudgedIn after name → JudgesIn Both name
+  judges_next name x before after None h g judged =
+      (before ++ after, None, inr (x, before, after, h, g, refl), judged-later before after name (first.quiet before x h) judged)
+  judges_next name x before after (Some y) h g judged =
+      (before ++ after, Some (x, y), (before, after, h, g, refl), judged-later before after name (first.quiet before x h) judged)
+
+  next_ends : (x : A) (before : Trail) → First before (Some x) → (status : Status) (text : List ℕ) → EndsIn (Next x) status text → EndsIn Both status text
+  next_ends x before h status text g =
+      (before ++ g.0, g.1, inr (x, before, g.0, h, g.2, refl), first-append before g.0 (first.quiet before x h) ∙ g.3, g.4)
+
+  -- the first part ends the run
+  pub first_ended : (reading : Reading) (judged : Judged) → Ends (EndsIn First) (JudgesIn First) reading judged → Ends (EndsIn Both) (JudgesIn Both) reading judged
+  first_ended reading judged h =
+      ends_more (EndsIn First) (EndsIn Both) (JudgesIn First) (JudgesIn Both) reading judged.status judged.text.items
+      (λ status text k. (k.0, k.1, inl k.2, k.3, k.4))
+      (λ name k. judges_first name k.0 k.1 k.2 k.3)
+      h
+
+  -- the second one does
+  pub next_ended : (x : A) (before : Trail) → First before (Some x) → (reading : Reading) (judged : Judged)
+      → Ends (EndsIn (Next x)) (JudgesIn (Next x)) reading judged → Ends (EndsIn Both) (JudgesIn Both) reading judged
+  next_ended x before h reading judged g =
+      ends_more (EndsIn (Next x)) (EndsIn Both) (JudgesIn (Next x)) (JudgesIn Both) reading judged.status judged.text.items
+      (next_ends x before h)
+      (λ name k. judges_next name x before k.0 k.1 h k.2 k.3)
+      g
+
+-- the run
 
 -- what an answer tells is its outcome
 ends_answer : (P : Status → List ℕ → Type 0) (Q : List ℕ → Type 0) (reading : Reading) (status : Status) (text : List ℕ) → IsAnswer status → EndsAs P Q reading status text → P status text
@@ -176,23 +212,3 @@ pub run_part : (told : Option Contents) (words : List (List ℕ)) (before now : 
 run_part None words before now reading judged old new bytes gone same gains tells cause = tt
 run_part (Some contents) words before now reading judged old new bytes gone same gains tells cause =
     part_of words contents before now reading old new judged.status judged.text.items tells cause (gone, subst (λ b. Gains old new (take gone b)) same gains)
-
--- what an answer tells of its refusal
-pub refusal_of : {T E : Type 0} (P : T → Type 0) (Q : E → Type 0) (stopped : Stop E) (refusal : E) → stopped ≡ stop.Named refusal → Answers (Err stopped) P Q → Q refusal
-refusal_of {T} P Q stopped refusal same h = subst (λ s. Answers {T = T} (Err s) P Q) same h
-
--- a document that was read declares the mapping of its form
-pub declares : (bytes source : List ℕ) (list slice tokens : List Token) (items : List Item) (mapping : Mapping)
-    → source ≡ bytes → slice ≡ list → tokens ≡ slice → AreTokens bytes list → IsTree slice items
-    → IsForm source tokens items (said mapping) → Declares bytes mapping
-declares bytes source list slice tokens items mapping same_source same_slice same_tokens are tree form =
-    let here = subst (λ ts. AreTokens bytes ts) (sym (same_tokens ∙ same_slice)) are in
-    (tokens, items, here, subst (λ ts. IsTree ts items) (sym same_tokens) tree, subst (λ b. IsForm b tokens items (said mapping)) same_source form)
-
--- a document that was read and is of no form ends the run so
-pub unread : (bytes source : List ℕ) (list slice tokens : List Token) (items : List Item) (status : Status) (text : List ℕ)
-    → source ≡ bytes → slice ≡ list → tokens ≡ slice → AreTokens bytes list → IsTree slice items
-    → ((what : Said) → IsForm source tokens items what → ⊥) → IsOf unbuilt status text → DocumentEvent bytes status text
-unread bytes source list slice tokens items status text same_source same_slice same_tokens are tree none ends =
-    let here = subst (λ ts. AreTokens bytes ts) (sym (same_tokens ∙ same_slice)) are in
-    inr (inr (tokens, items, here, subst (λ ts. IsTree ts items) (sym same_tokens) tree, (λ what form. none what (subst (λ b. IsForm b tokens items what) (sym same_source) form)), ends))

@@ -20,7 +20,7 @@ first a b c more false true = refl
 first a b c more false false = second a b c more (is_dashes b) (is_option b)
 
 -- three words and more are never just one file
-pub three_are_none : (a b c : List ℕ) (more : List (List ℕ)) → None ≡ only_of (files_of (a ∷ b ∷ c ∷ more))
+three_are_none : (a b c : List ℕ) (more : List (List ℕ)) → None ≡ only_of (files_of (a ∷ b ∷ c ∷ more))
 three_are_none a b c more = sym (first a b c more (is_dashes a) (is_option a))
 
 -- the same of a list that has three words

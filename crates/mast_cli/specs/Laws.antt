@@ -14,4 +14,5 @@ SomeOutcome =
 abbrev pub OneOutcome : Type 0
 OneOutcome =
     (words : List (List ℕ)) (contents : Contents) (status other : Status) (text next : List ℕ)
-    → Outcome words contents status text → Outcome words contents other next → (status ≡ other) × (text ≡ next)
+    → Outcome words contents status text → Outcome words contents other next
+    → (status ≡ other) × (text ≡ next)

@@ -6,7 +6,8 @@ use Rattle.mast_cli.specs.declared.status.Status.TheVariants as st
 use Rattle.mast_files.specs.Outside.{Contents, Reading, Writing, Gains}
 use Rattle.mast_files.specs.States.{SoundFilesState, SoundSinkState, sound_contents, sound_writing}
 use Rattle.mast_files.specs.Stored.{content_of}
-use Rattle.mast_cli.specs.Lines.{fault_line}
+use Rattle.mast_write.specs.declared.refusals.Refusal.TheVariants as refusal
+use Rattle.mast_write.specs.RefusalLines.{refusal_line}
 use Rattle.mast_cli.specs.Outcome.{Outcome, Judges}
 
 -- the status is neither a fault nor want of memory
@@ -37,13 +38,18 @@ Words = List (String Global)
 abbrev pub bytes_of : Words → List (List ℕ)
 bytes_of words = map string_bytes words
 
+-- the line of a read fault of this file
+abbrev pub fault_line : List ℕ → List ℕ
+fault_line name = refusal_line (refusal.ReadFault name)
+
 -- a call on the current file has failed, and its name is so
 abbrev pub FailedFile : Reading → (List ℕ → Type 0) → Type 0
 FailedFile reading P = (name : List ℕ) × (reading.current ≡ Some name) × (reading.failed ≡ true) × P name
 
 -- the sink was given exactly the text of an outcome
 abbrev pub GivesOutcome : List (List ℕ) → Contents → Status → Writing → Writing → Type 0
-GivesOutcome words contents status old new = (text : List ℕ) × Outcome words contents status text × Gains old new text
+GivesOutcome words contents status old new =
+    (text : List ℕ) × Outcome words contents status text × Gains old new text
 
 -- on an answer the sink was given exactly the text of an outcome, where the contents are told
 abbrev pub WritesText : Words → Option Contents → Status → Writing → Writing → Type 0

@@ -2,6 +2,7 @@
 pub mod Causes
 pub mod Commands
 pub mod FactLines
-pub mod Form
-pub mod Tables
+pub mod Loading
+pub mod Places
+pub mod Plans
 pub mod Telling

@@ -1,21 +1,18 @@
 //! The top call of Mastro: facts of mappings and tables, by the words of the command line.
 //! The program rests on this: `program` answers what its words and its files' contents call for, and writes just that.
 //! In `specs/`, `Run` has what a run owes, `Outcome` what it may answer; the files that these name define the rest.
-//! It alone knows words, printed lines and statuses. It must not know which machine its files and its sink stand on.
+//! It alone knows words, stages and statuses. It must not know which machine its files and its sink stand on.
 #![tactic(auto)]
 
-mod declared;
-mod events;
-mod facts;
+mod command;
+mod document;
+mod file;
 mod given;
-mod items;
 mod judged;
 mod laws;
 mod limits;
-mod mapping;
-mod query;
-mod stages;
 mod status;
+mod tables;
 mod top;
 mod words;
 

@@ -1,6 +1,9 @@
 //! How a run ends.
 ghost use Rattle.std.specs.Prelude.{◌≡◌};
 ghost use Rattle.mast_cli.specs.Codes.{code_of};
+ghost use Rattle.mast_cli.specs.Limits as spec;
+
+use mast_write::{EventKind, Refusal};
 
 /// How a run ends. Each status has a code, with which the program ends.
 #[derive(Clone, Copy, Debug, PartialEq, Eq)]
@@ -34,6 +37,17 @@ impl Status {
             Status::ReadFault => 5,
             Status::WriteFault => 6,
             Status::NoMemory => 7,
+        }
+    }
+
+    /// The status of a run that ends at this event, or with this read fault.
+    pub fn of(event: &Refusal) -> Status
+        ensures { result ≡ spec.status_of event.now }
+    {
+        match event.event_kind() {
+            EventKind::Refused => Status::Refused,
+            EventKind::Limit => Status::Limit,
+            EventKind::ReadFault => Status::ReadFault,
         }
     }
 }

@@ -1,13 +1,18 @@
 //! The top call.
-ghost use Rattle.std.specs.Prelude.{◌≡◌, ◌⊎◌, ◌<◌};
+ghost use Rattle.std.specs.Prelude.{◌≡◌, ◌⊎◌, ◌<◌, IfOk};
 ghost use Rattle.mast_files.specs.Causes.{Rose};
 ghost use Rattle.mast_cli.specs.Run.{IsAnswer, IsNoAnswer, GivesFront, WritesText, WritesFaultLine, FaultsInPlace, WritesPart};
-ghost use Rattle.mast_cli.specs.Run.{WritesSoundly, TellsText};
+ghost use Rattle.mast_cli.specs.Run.{WritesSoundly, TellsText, bytes_of};
+ghost use Rattle.mast_cli.specs.inside.Causes.{JudgedHasCause};
+ghost use Rattle.mast_cli.specs.inside.Telling.{TellsRun, WhenTold};
 
-use crate::stages::judge;
+use crate::command::facts::judge_facts;
+use crate::judged::Judged;
 use crate::status::Status;
+use crate::words::{Task, Usage, read_words};
 use mast_files::{Files, Sink, SoundFiles, SoundSink, write_all_of};
-use mast_terms::NoMemory;
+use mast_terms::{NoMemory, Stop};
+use mast_write::usage_text;
 use std::alloc::Global;
 use std::thread::Threads;
 
@@ -78,4 +83,20 @@ pub fn run_sound<Rt: Threads + Sync>(
     ensures no_memory { result ≡ Status.NoMemory → sink.new.written ≡ sink.old.written }
 {
     run(rt, alloc, words, files, sink)
+}
+
+// The status and the text of a run, but for faults of the sink.
+fn judge<F: Files>(alloc: Global, words: &[String], files: &mut F) -> Result<Judged, NoMemory>
+    ensures told { IfOk result (WhenTold (F.contents files.old) (TellsRun (bytes_of words.now) (F.reading files.new))) }
+    ensures kept { F.contents files.new ≡ F.contents files.old }
+    ensures cause { IfOk result (JudgedHasCause (F.faults files.old) (F.faults files.new) (F.reading files.new)) }
+{
+    match read_words(alloc, words) {
+        Ok(Task::Facts { mappings }) => judge_facts(alloc, mappings.as_str(), files),
+        Err(Stop::Named(Usage)) => Ok(Judged {
+            status: Status::Usage,
+            text: usage_text(alloc)?,
+        }),
+        Err(Stop::NoMemory) => Err(NoMemory),
+    }
 }

@@ -12,7 +12,9 @@ const MAPPINGS: &str = "\
 Prefix(:=<http://e/>)
 Mappings(
 Table(t \"t.csv\" Column(id integer))
+Table(u \"u.csv\" Column(id integer))
 Map(\"SELECT id FROM t\" Class(:Person Obj(p id)))
+Map(\"SELECT id FROM u\" Class(:Pet Obj(q id)))
 )
 ";
 
@@ -21,11 +23,12 @@ fn entry(alloc: Global, name: &str, text: &str) -> Result<(Text, List<u8>), Fail
     Ok((name, List::from_vec(text.as_bytes().to_vec(alloc)?)))
 }
 
-// The mapping document and its table.
+// The mapping document and its tables.
 fn entries(alloc: Global) -> Result<Vec<(Text, List<u8>)>, Fail> {
     let mut files = Vec::new(alloc);
     files.push(entry(alloc, "m.ofn", MAPPINGS)?)?;
     files.push(entry(alloc, "t.csv", "id\n2\n1\n")?)?;
+    files.push(entry(alloc, "u.csv", "id\n3\n")?)?;
     Ok(files)
 }
 
@@ -44,14 +47,14 @@ fn words(alloc: Global, words: &[&str]) -> Result<Vec<String>, Fail> {
     Ok(owned)
 }
 
-const TEXT: &str = "<http://e/Person>(p(1))\n<http://e/Person>(p(2))\n";
+const TEXT: &str = "<http://e/Person>(p(1))\n<http://e/Person>(p(2))\n<http://e/Pet>(q(3))\n";
 
 // Call 0 starts the mapping document, and with pieces of 1000 bytes calls 1 and 2 read it; call 3 starts the
-// table, and calls 4 and 5 read it. No call comes after these.
+// first table, and calls 4 and 5 read it; calls 6 to 8 do so with the second one. No call comes after these.
 #[test]
 fn a_fault_of_each_call_names_its_file(rt: HostRuntime) -> Result<(), Fail> {
     let alloc = rt.alloc();
-    for call in 0..7u64 {
+    for call in 0..10u64 {
         let mut files = people(alloc, &[call], 1000)?;
         let mut sink = MemSink::new(alloc, Vec::new(alloc), 1000, 1000)?;
         let status = run(
@@ -67,6 +70,9 @@ fn a_fault_of_each_call_names_its_file(rt: HostRuntime) -> Result<(), Fail> {
         } else if call < 6 {
             assert_eq!(rt; status, Status::ReadFault);
             assert_eq!(rt; sink.written(), b"read fault \"t.csv\"\n".as_slice());
+        } else if call < 9 {
+            assert_eq!(rt; status, Status::ReadFault);
+            assert_eq!(rt; sink.written(), b"read fault \"u.csv\"\n".as_slice());
         } else {
             assert_eq!(rt; status, Status::Done);
             assert_eq!(rt; sink.written(), TEXT.as_bytes());
@@ -79,7 +85,7 @@ fn a_fault_of_each_call_names_its_file(rt: HostRuntime) -> Result<(), Fail> {
 #[test]
 fn a_fault_of_each_put_leaves_a_front(rt: HostRuntime) -> Result<(), Fail> {
     let alloc = rt.alloc();
-    for put in 0..8usize {
+    for put in 0..11usize {
         let mut files = people(alloc, &[], 3)?;
         let mut failing = Vec::new(alloc);
         failing.push(put as u64)?;
@@ -91,7 +97,7 @@ fn a_fault_of_each_put_leaves_a_front(rt: HostRuntime) -> Result<(), Fail> {
             &mut files,
             &mut sink,
         );
-        if put < 7 {
+        if put < 10 {
             assert_eq!(rt; status, Status::WriteFault);
             assert_eq!(rt;
                 sink.written(),

@@ -1,14 +1,13 @@
--- The causes of what a stage of a run gives.
-use Rattle.std.specs.Prelude.{◌≡◌, ◌≤◌, ⊤, ℕ, List}
+-- The causes of what a part of a run gives.
+use Rattle.std.specs.Prelude.{◌≡◌, ◌≤◌, ℕ, List}
+use Rattle.mast_cli.specs.declared.judged.Judged.{Judged}
+use Rattle.mast_cli.specs.declared.judged.Part.{Part}
+use Rattle.mast_cli.specs.declared.judged.Part.TheVariants as part
 use Rattle.mast_cli.specs.declared.status.Status.{Status}
 use Rattle.mast_cli.specs.declared.status.Status.TheVariants as st
-use Rattle.mast_cli.specs.declared.judged.Judged.{Judged}
-use Rattle.mast_cli.specs.declared.judged.Stage.{Stage}
-use Rattle.mast_cli.specs.declared.judged.Stage.TheVariants as stage
 use Rattle.mast_files.specs.Outside.{Reading}
 use Rattle.mast_files.specs.Causes.{Rose}
-use Rattle.mast_cli.specs.Lines.{fault_line}
-use Rattle.mast_cli.specs.Run.{IsAnswer, FailedFile}
+use Rattle.mast_cli.specs.Run.{FailedFile, fault_line}
 
 -- A read fault is judged only where the count rose, with the line of the current file, of which a call has failed.
 -- Nothing else that is judged raises the count.
@@ -23,21 +22,7 @@ HasCause before now reading status text = now ≡ before
 abbrev pub JudgedHasCause : ℕ → ℕ → Reading → Judged → Type 0
 JudgedHasCause before now reading judged = HasCause before now reading judged.status judged.text.items
 
--- the same for a stage, which leaves the count where it read what it is to read
-abbrev pub StageHasCause : {T : Type 0} → ℕ → ℕ → Reading → Stage T → Type 0
-StageHasCause before now reading (stage.Read x) = now ≡ before
-StageHasCause before now reading (stage.Ended judged) = JudgedHasCause before now reading judged
-
--- a breach, a limit or the usage text: no fault
-abbrev pub IsEvent : Judged → Type 0
-IsEvent judged = IsAnswer judged.status
-
--- a stage that ends, if it does, at an event
-abbrev pub StageIsEvent : {T : Type 0} → Stage T → Type 0
-StageIsEvent (stage.Read x) = ⊤
-StageIsEvent (stage.Ended judged) = IsEvent judged
-
--- P of what a stage read
-abbrev pub IfRead : {T : Type 0} → (T → Type 0) → Stage T → Type 0
-IfRead P (stage.Read x) = P x
-IfRead P (stage.Ended judged) = ⊤
+-- the same for a part, which leaves the count where it read what it is to read
+abbrev pub PartHasCause : {T : Type 0} → ℕ → ℕ → Reading → Part T → Type 0
+PartHasCause before now reading (part.Read x) = now ≡ before
+PartHasCause before now reading (part.Ended judged) = JudgedHasCause before now reading judged

@@ -1,44 +1,59 @@
--- The lines of facts, row by row, and how they become a text.
-use Rattle.std.specs.Prelude.{ℕ, List, [], ◌∷◌, ◌++◌, Option, Some, None, option_map, take, drop, get_or, ◌-◌, Contains}
-use Rattle.std.specs.Ordering.{nat_cmp}
-use Rattle.std.specs.List.Sorted.{IsStrictlySortedBy}
-use Rattle.std.specs.Cmp.Lexicographic.{slice_cmp}
-use Rattle.mast_terms.specs.declared.value.Value.{Value}
+-- The lines of facts, by split mappings and choices.
+use Rattle.std.specs.Prelude.{◌≡◌, ◌↔◌, ℕ, List, ◌++◌, Some}
+use Rattle.std.specs.List.{filter_map}
+use Rattle.mast_canon.specs.Choices.{Meets, chosen}
+use Rattle.mast_canon.specs.Conditions.{SplitInRange, SplitOverTables, TablesHaveNumbers}
+use Rattle.mast_canon.specs.declared.rows.Tables.{Tables}
+use Rattle.mast_canon.specs.declared.spec.Spec.{Spec}
+use Rattle.mast_cq.specs.Queries.{In}
+use Rattle.mast_mapping.specs.declared.split_map.SplitMap.{SplitMap}
+use Rattle.mast_tables.specs.declared.declaration.TableDecl.{TableDecl}
 use Rattle.mast_tables.specs.Rows.{Row}
-use Rattle.mast_cli.specs.declared.mapping.Mapping.{Mapping}
-use Rattle.mast_cli.specs.Facts.{cells_in, fact_of, fact_line}
+use Rattle.mast_terms.specs.Vocabularies.{Lists}
+use Rattle.mast_write.specs.LineText.{AreSame, IsTextOf, StandsIn}
+use Rattle.mast_write.specs.Written.{Written}
+use Rattle.mast_cli.specs.declared.command.line_plan.LinePlan.{LinePlan}
+use Rattle.mast_cli.specs.command.Facts.{line_of}
+use Rattle.mast_cli.specs.inside.Plans.{chosen_cell, plan_text}
 
--- the values of cells, and None where one is missing
-abbrev pub all_values : List (Option Value) → Option (List Value)
-all_values [] = Some []
-all_values (None ∷ cells) = None
-all_values (Some value ∷ cells) = option_map (λ values. value ∷ values) (all_values cells)
+-- split mappings over tables, with names of the vocabulary
+pub record AreMaps (vocab : Lists) (tables : List TableDecl) (maps : List SplitMap) : Type 0 where
+  pub named : SplitInRange vocab maps
+  pub over : SplitOverTables tables maps
+  pub numbered : TablesHaveNumbers tables
 
--- the line of the fact of these arguments, or no line
-abbrev pub lines_from : Mapping → Option (List Value) → List (List ℕ)
-lines_from mapping None = []
-lines_from mapping (Some args) = fact_line (fact_of mapping args) ∷ []
+-- the line of the fact that some choice gives by this split mapping
+pub record IsMapLine (vocab : Lists) (decls : List TableDecl) (tables : List (List Row)) (map : SplitMap) (line : List ℕ)
+    : Type 0 where
+  pub choice : List ℕ
+  pub meets : Meets decls tables map.query choice
+  pub is : line_of vocab decls map (chosen decls tables map.query.from choice) ≡ Some line
 
--- the line of the fact that a row supports, or no line
-abbrev pub row_lines : Mapping → Row → List (List ℕ)
-row_lines mapping row = lines_from mapping (all_values (cells_in mapping.slots row))
+-- the line of the fact that some choice gives by one of these
+pub record IsLineOf (vocab : Lists) (decls : List TableDecl) (tables : List (List Row)) (maps : List SplitMap) (line : List ℕ)
+    : Type 0 where
+  pub map : SplitMap
+  pub stands : In map maps
+  pub of : IsMapLine vocab decls tables map line
 
--- the same of the row of this number
-abbrev pub lines_at : Mapping → List Row → ℕ → List (List ℕ)
-lines_at mapping rows row = row_lines mapping (get_or rows (row - 1) [])
+-- a text of the lines of all split mappings
+abbrev pub IsFactText : Spec → Tables → List ℕ → Type 0
+IsFactText spec tables text = IsTextOf (IsLineOf spec.vocab spec.tables tables.list spec.maps) text
 
--- the lines of the facts that rows support, row by row
-abbrev pub rows_lines : Mapping → List Row → List (List ℕ)
-rows_lines mapping [] = []
-rows_lines mapping (row ∷ rows) = row_lines mapping row ++ rows_lines mapping rows
+-- the lines are those of all split mappings
+abbrev pub AreFactLines : Spec → Tables → Written → Type 0
+AreFactLines spec tables lines = AreSame (StandsIn lines.lines) (IsLineOf spec.vocab spec.tables tables.list spec.maps)
 
--- the pieces of these lengths, one after the other
-abbrev pub pieces : List ℕ → List ℕ → List (List ℕ)
-pieces [] bytes = []
-pieces (n ∷ ns) bytes = take n bytes ∷ pieces ns (drop n bytes)
+-- some lines were added, and these are exactly the ones with P
+pub record AddsLines (old new : List (List ℕ)) (P : List ℕ → Type 0) : Type 0 where
+  pub more : List (List ℕ)
+  pub added : new ≡ old ++ more
+  pub exact : (line : List ℕ) → In line more ↔ P line
 
--- the same lines, sorted by their bytes, each once
-pub record IsSetOf (old new : List (List ℕ)) : Type 0 where
-  pub sorted : IsStrictlySortedBy (slice_cmp nat_cmp) new
-  pub each : (line : List ℕ) → Contains new line → Contains old line
-  pub all : (line : List ℕ) → Contains old line → Contains new line
+-- the lines of a split mapping were added
+abbrev pub AddsMap : Spec → Tables → SplitMap → Written → Written → Type 0
+AddsMap spec tables map old new = AddsLines old.lines new.lines (IsMapLine spec.vocab spec.tables tables.list map)
+
+-- the lines of choices in order; a choice with a missing cell has none
+abbrev pub lines_of : List (List Row) → LinePlan → List (List ℕ) → List (List ℕ)
+lines_of tables plan choices = filter_map (λ choice. plan_text (chosen_cell tables choice) plan) choices

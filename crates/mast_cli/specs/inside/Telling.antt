@@ -1,18 +1,32 @@
--- What the stages of a run tell, where the contents are known.
-use Rattle.std.specs.Prelude.{◌≡◌, ℕ, List, Option, Some, IfSome}
+-- What the parts of a run tell, where the contents are known.
+use Rattle.std.specs.Prelude.{◌≡◌, ◌<◌, ◌≤◌, ⊤, ℕ, List, Vec, length, Option, Some, Result, Ok, Err, IfSome}
+use Rattle.std.specs.declared.alloc.Global.{Global}
+use Rattle.mast_files.specs.Outside.{Contents, Reading}
+use Rattle.mast_write.specs.declared.refusals.Refusal.{Refusal}
+use Rattle.mast_write.specs.declared.refusals.Refusal.TheVariants as refusal
+use Rattle.mast_mapping.specs.declared.map.Mappings.{Mappings}
+use Rattle.mast_terms.specs.declared.memory.Stop.{Stop}
+use Rattle.mast_terms.specs.declared.memory.Stop.TheVariants as stop
+use Rattle.mast_tree.specs.declared.document.DocName.{DocName}
+use Rattle.mast_tree.specs.declared.shape.ShapeBreach.{ShapeBreach}
+use Rattle.mast_cli.specs.declared.judged.Judged.{Judged}
+use Rattle.mast_cli.specs.declared.judged.Part.{Part}
+use Rattle.mast_cli.specs.declared.judged.Part.TheVariants as part
 use Rattle.mast_cli.specs.declared.status.Status.{Status}
 use Rattle.mast_cli.specs.declared.status.Status.TheVariants as st
-use Rattle.mast_cli.specs.declared.judged.Judged.{Judged}
-use Rattle.mast_cli.specs.declared.judged.Stage.{Stage}
-use Rattle.mast_cli.specs.declared.judged.Stage.TheVariants as stage
-use Rattle.mast_files.specs.Outside.{Contents, Reading}
-use Rattle.mast_tables.specs.declared.declaration.TableDecl.{TableDecl}
-use Rattle.mast_tables.specs.Breach.{HasRows}
-use Rattle.mast_tables.specs.Records.{records_of}
-use Rattle.mast_tables.specs.Rows.{Row}
-use Rattle.mast_cli.specs.declared.limits.TheConstants.{ROWS}
-use Rattle.mast_cli.specs.declared.mapping.Mapping.{Mapping}
-use Rattle.mast_cli.specs.Outcome.{Outcome, FactsOutcome, Judges, JudgesOf, HasMapping, MappingsEvent, HasTable, TableEvent, RecordsEvent}
+use Rattle.mast_cli.specs.command.Facts.{FactsStages}
+use Rattle.mast_cli.specs.FirstEvent.{Trail, IsJudgedIn}
+use Rattle.mast_cli.specs.Outcome.{EndsAt, EndsIn, FactsOutcome, Outcome, Judges}
+use Rattle.mast_cli.specs.stage.Document.{MappingsStage}
+
+-- what was judged is this event
+abbrev pub JudgedAt : Refusal → Judged → Type 0
+JudgedAt event judged = EndsAt event judged.status judged.text.items
+
+-- a part of the run ends at this event
+abbrev pub PartAt : {T : Type 0} → Refusal → Part T → Type 0
+PartAt event (part.Read x) = ⊥
+PartAt event (part.Ended judged) = JudgedAt event judged
 
 -- P of the status and the text, or for a read fault Q of the current file's name
 abbrev pub EndsAs : (Status → List ℕ → Type 0) → (List ℕ → Type 0) → Reading → Status → List ℕ → Type 0
@@ -23,39 +37,68 @@ EndsAs P Q reading status text = P status text
 abbrev pub Ends : (Status → List ℕ → Type 0) → (List ℕ → Type 0) → Reading → Judged → Type 0
 Ends P Q reading judged = EndsAs P Q reading judged.status judged.text.items
 
--- a stage on bytes: what they have, or their event
-abbrev pub TellsBytes : {T : Type 0} → (T → Type 0) → (Status → List ℕ → Type 0) → Stage T → Type 0
-TellsBytes Has Event (stage.Read x) = Has x
-TellsBytes Has Event (stage.Ended judged) = Event judged.status judged.text.items
+-- an end at an event with P
+abbrev pub AtEvent : (Refusal → Type 0) → Status → List ℕ → Type 0
+AtEvent P status text = (event : Refusal) × P event × EndsAt event status text
 
--- a stage on a file: what it has, or its event, or a read fault of this file
-abbrev pub TellsFile : {T : Type 0} → (T → Type 0) → (Status → List ℕ → Type 0) → List ℕ → Reading → Stage T → Type 0
-TellsFile Has Event name reading (stage.Read x) = Has x
-TellsFile Has Event name reading (stage.Ended judged) = Ends Event (λ current. current ≡ name) reading judged
+-- a part that goes over bytes: what they have, or their event
+abbrev pub TellsBytes : {T : Type 0} → (T → Type 0) → (Refusal → Type 0) → Part T → Type 0
+TellsBytes Has HasEvent (part.Read x) = Has x
+TellsBytes Has HasEvent (part.Ended judged) = AtEvent HasEvent judged.status judged.text.items
 
--- the reading of a mapping document under this name
-abbrev pub TellsMappings : List ℕ → Reading → Contents → Stage Mapping → Type 0
-TellsMappings name reading contents stage =
-    TellsFile (HasMapping (contents name)) (MappingsEvent (contents name)) name reading stage
+-- a part that reads a file: what it has, or its event, or a read fault of this file
+abbrev pub TellsFile : {T : Type 0} → (T → Type 0) → (Refusal → Type 0) → List ℕ → Reading → Part T → Type 0
+TellsFile Has HasEvent name reading (part.Read x) = Has x
+TellsFile Has HasEvent name reading (part.Ended judged) = Ends (AtEvent HasEvent) (λ current. current ≡ name) reading judged
 
--- the reading of a table
-abbrev pub TellsTable : TableDecl → Reading → Contents → Stage (List Row) → Type 0
-TellsTable decl reading contents stage =
-    TellsFile (HasTable decl (contents decl.file)) (TableEvent decl (contents decl.file)) decl.file reading stage
+-- these bytes are a content of at most so many
+abbrev pub HasContent : ℕ → List ℕ → Vec ℕ Global → Type 0
+HasContent most content bytes = (length content ≤ most) × (bytes.items ≡ content)
 
--- the reading of a table's bytes
-abbrev pub TellsRecords : TableDecl → List ℕ → Stage (List Row) → Type 0
-TellsRecords decl bytes stage =
-    TellsBytes (HasRows decl.columns ROWS (records_of bytes)) (RecordsEvent decl bytes) stage
+-- the content has more bytes, and the event is this one
+abbrev pub IsTooLong : ℕ → Refusal → List ℕ → Refusal → Type 0
+IsTooLong most too_long content event = (most < length content) × (event ≡ too_long)
+
+-- the content of a file, or the event that it has more bytes than so many, or a read fault of this file
+abbrev pub TellsContent : ℕ → Refusal → List ℕ → Reading → Contents → Part (Vec ℕ Global) → Type 0
+TellsContent most too_long name reading contents what =
+    TellsFile (HasContent most (contents name)) (IsTooLong most too_long (contents name)) name reading what
+
+-- stages of a run judge this file, and no event stands before
+abbrev pub JudgesIn : {T : Type 0} → (Trail → Option T → Type 0) → List ℕ → Type 0
+JudgesIn {T} Stages name = (stages : Trail) × (end : Option T) × Stages stages end × IsJudgedIn stages name
+
+-- a part with these stages: they are gone through without an event, or the run ends at their first one, or at a read
+-- fault in its place
+abbrev pub TellsPart : {T : Type 0} → (Trail → Option T → Type 0) → Reading → Part T → Type 0
+TellsPart Stages reading (part.Read x) = (stages : Trail) × Stages stages (Some x)
+TellsPart Stages reading (part.Ended judged) = Ends (EndsIn Stages) (JudgesIn Stages) reading judged
+
+-- P of the contents and of x, where the contents are told
+abbrev pub WhenTold : {T : Type 0} → Option Contents → (Contents → T → Type 0) → T → Type 0
+WhenTold contents P x = IfSome contents (λ c. P c x)
+
+-- P of what a part read
+abbrev pub IfRead : {T : Type 0} → (T → Type 0) → Part T → Type 0
+IfRead P (part.Read x) = P x
+IfRead P (part.Ended judged) = ⊤
+
+-- the stage of a mapping document in a file
+abbrev pub TellsMappings : List ℕ → Reading → Contents → Part Mappings → Type 0
+TellsMappings file reading contents what = TellsPart (MappingsStage contents file) reading what
 
 -- the run of `facts` on a file
 abbrev pub TellsFacts : List ℕ → Reading → Contents → Judged → Type 0
-TellsFacts file reading contents judged = Ends (FactsOutcome contents file) (JudgesOf contents file) reading judged
+TellsFacts file reading contents judged =
+    Ends (FactsOutcome contents file) (JudgesIn (FactsStages contents file)) reading judged
 
 -- the run
 abbrev pub TellsRun : List (List ℕ) → Reading → Contents → Judged → Type 0
 TellsRun words reading contents judged = Ends (Outcome words contents) (Judges words contents) reading judged
 
--- P of the contents and of x, where the contents are told
-abbrev pub WhenTold : {T : Type 0} → Option Contents → (Contents → T → Type 0) → T → Type 0
-WhenTold contents P x = IfSome contents (λ c. P c x)
+-- what a reader of documents gave, or its breach of a document
+abbrev pub IsValueOf : {T : Type 0} → DocName → Result T (Stop ShapeBreach) → Part T → Type 0
+IsValueOf doc (Ok value) (part.Read read) = read ≡ value
+IsValueOf doc (Ok value) (part.Ended judged) = ⊥
+IsValueOf doc (Err (stop.Named breach)) what = PartAt (refusal.Shape doc breach) what
+IsValueOf doc (Err stop.NoMemory) what = ⊥

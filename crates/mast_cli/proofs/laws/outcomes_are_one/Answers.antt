@@ -1,7 +1,6 @@
--- The law of table files gives the outcome after a mapping document without an event.
-use Rattle.mast_cli.proofs.OutcomeLemmas.{one_outcome}
-use Rattle.mast_cli.proofs.SomeOutcomeLemmas.{some_outcome}
+-- That each table file has an answer is a law of mast_tables.
+use Rattle.mast_cli.proofs.OutcomeLemmas.{one_outcome, some_outcome}
 use Rattle.mast_cli.proofs.laws.outcomes_are_one.Goals as goal
 
 pub returns : goal.returns
-returns c = record { some = some_outcome c.files_have_one_answer.ensures.some; one = one_outcome }
+returns c = record { some = some_outcome c.files_have_one_answer.ensures.some; one = one_outcome c.files_have_one_answer.ensures.some }

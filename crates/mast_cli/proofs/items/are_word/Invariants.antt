@@ -1,7 +1,0 @@
--- The bytes so far are of a word.
-use Rattle.std.proofs.Common.{◌≡◌, drop}
-use Rattle.mast_cli.specs.MappingForm.{are_word}
-use Rattle.mast_cli.proofs.items.are_word.Given as goal
-
-abbrev pub invariant-loop-b : goal.invariant-loop-b
-invariant-loop-b l = are_word (drop l.b-index l.bytes) ≡ are_word l.bytes

@@ -1,0 +1,2 @@
+-- What each command answers.
+pub mod Facts

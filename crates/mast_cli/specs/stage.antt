@@ -1,0 +1,3 @@
+-- The stages of runs.
+pub mod Document
+pub mod Tables

@@ -1,0 +1,109 @@
+//! The command `facts`: the mapping document, then each declared table, and the text of all facts.
+ghost use Rattle.std.specs.Prelude.{◌≡◌, ◌++◌, [], ◌∷◌, IfOk, OnOk};
+ghost use Rattle.std.specs.List.{AllByRecursion};
+ghost use Rattle.mast_canon.specs.Fitting.{Fits};
+ghost use Rattle.mast_cli.specs.inside.Causes.{JudgedHasCause};
+ghost use Rattle.mast_cli.specs.inside.FactLines.{AddsMap, AreFactLines, AreMaps, IsFactText, lines_of};
+ghost use Rattle.mast_cli.specs.inside.Plans.{AreThere};
+ghost use Rattle.mast_cli.specs.inside.Telling.{TellsFacts, WhenTold};
+
+use crate::command::line_plan::{LinePlan, line_plan};
+use crate::document::judge_mappings;
+use crate::judged::{Judged, Part};
+use crate::status::Status;
+use crate::tables::judge_tables;
+use mast_canon::{Spec, Tables};
+use mast_files::Files;
+use mast_join::{Choices, choices};
+use mast_mapping::SplitMap;
+use mast_tables::{Table, files_have_one_answer};
+use mast_terms::NoMemory;
+use mast_write::Lines;
+use std::alloc::Global;
+
+/// What `facts` answers on the mapping document in this file.
+pub fn judge_facts<F: Files>(alloc: Global, file: &str, files: &mut F) -> Result<Judged, NoMemory>
+    ensures told { IfOk result (WhenTold (F.contents files.old) (TellsFacts file.now (F.reading files.new))) }
+    ensures kept { F.contents files.new ≡ F.contents files.old }
+    ensures cause { IfOk result (JudgedHasCause (F.faults files.old) (F.faults files.new) (F.reading files.new)) }
+{
+    // Where a call on a file fails, the stages behind it are still those of the contents.
+    files_have_one_answer();
+
+    let mappings = match judge_mappings(alloc, file, files)? {
+        Part::Read(mappings) => mappings,
+        Part::Ended(judged) => return Ok(judged),
+    };
+    let spec = Spec::facts_only(alloc, mappings)?;
+    let list = match judge_tables(alloc, spec.tables.as_slice(), files)? {
+        Part::Read(list) => list,
+        Part::Ended(judged) => return Ok(judged),
+    };
+    Ok(Judged {
+        status: Status::Done,
+        text: facts_text(alloc, &spec, Tables { list })?,
+    })
+}
+
+// The text of the lines of all facts.
+fn facts_text(alloc: Global, spec: &Spec, tables: Tables) -> Result<Vec<u8>, NoMemory>
+    requires maps { AreMaps spec.now.vocab spec.now.tables spec.now.maps }
+    requires fits { Fits spec.now.tables tables.list }
+    ensures { IfOk result (λ text. IsFactText spec.now tables text.items) }
+{
+    let lines = facts_lines(alloc, spec, tables)?;
+    lines.into_text(alloc)
+}
+
+// The lines of all facts. It takes the tables, so that they are gone before the lines are sorted.
+#[tactic(auto, using(crate::proofs::MapLemmas::written_next))]
+fn facts_lines(alloc: Global, spec: &Spec, tables: Tables) -> Result<Lines, NoMemory>
+    requires maps { AreMaps spec.now.vocab spec.now.tables spec.now.maps }
+    requires fits { Fits spec.now.tables tables.list }
+    ensures { IfOk result (AreFactLines spec.now tables) }
+{
+    let mut lines = Lines::new(alloc);
+    for map in spec.maps.as_slice() {
+        put_map(alloc, spec, &tables, map, &mut lines)?;
+    }
+    Ok(lines)
+}
+
+// Writes the line of each choice that meets the source query of a split mapping.
+#[tactic(auto, using(crate::proofs::MapLemmas::choices_added))]
+fn put_map(
+    alloc: Global,
+    spec: &Spec,
+    tables: &Tables,
+    map: &SplitMap,
+    lines: &mut Lines,
+) -> Result<(), NoMemory>
+    requires maps { AreMaps spec.now.vocab spec.now.tables (map.now ∷ []) }
+    requires fits { Fits spec.now.tables tables.now.list }
+    requires clean { lines.old.begun ≡ [] }
+    ensures lines { OnOk result (AddsMap spec.now tables.now map.now lines.old lines.new) }
+    ensures clean { OnOk result (lines.new.begun ≡ []) }
+{
+    let plan = line_plan(alloc, &spec.vocab, spec.tables.as_slice(), map)?;
+    let chosen = choices(alloc, &map.query, spec.tables.as_slice(), tables, None)?;
+    put_choices(alloc, &plan, tables.list.as_slice(), &chosen, lines)
+}
+
+// Writes the line of each choice.
+fn put_choices(
+    alloc: Global,
+    plan: &LinePlan,
+    tables: &[Table],
+    chosen: &Choices,
+    lines: &mut Lines,
+) -> Result<(), NoMemory>
+    requires there { AllByRecursion (λ choice. AreThere tables.now choice plan.now.cells.items) chosen.now.list }
+    requires clean { lines.old.begun ≡ [] }
+    ensures lines { OnOk result (lines.new.lines ≡ lines.old.lines ++ lines_of tables.now plan.now chosen.now.list) }
+    ensures clean { OnOk result (lines.new.begun ≡ []) }
+{
+    for number in 0..chosen.len() {
+        plan.put_line(alloc, tables, chosen.choice(number), lines)?;
+    }
+    Ok(())
+}
