@@ -66,7 +66,7 @@ module _ (P Q : NameKind → ℕ → Type 0) (k : (kind : NameKind) (n : ℕ) �
   end_weaker None h = tt
   end_weaker (Some a) h = k kinds.Class a.0 h
 
-  inclusion_weaker : (i : Inclusion) → InclusionNamed P i → InclusionNamed Q i
+  pub inclusion_weaker : (i : Inclusion) → InclusionNamed P i → InclusionNamed Q i
   inclusion_weaker (inclusion.Class b a) h = (basic_weaker b h.0, k kinds.Class a.0 h.1)
   inclusion_weaker (inclusion.Exists b r end n) h = (basic_weaker b h.0, (role_weaker r h.1.0, end_weaker end h.1.1))
   inclusion_weaker (inclusion.HasValue b u n) h = (basic_weaker b h.0, k kinds.Attr u.0 h.1)
@@ -95,7 +95,7 @@ module _ (P Q : NameKind → ℕ → Type 0) (k : (kind : NameKind) (n : ℕ) �
   constraint_weaker (Identify b paths) h = (basic_weaker b h.0, each_weaker (AllByRecursion (StepNamed P)) (AllByRecursion (StepNamed Q)) (each_weaker (StepNamed P) (StepNamed Q) step_weaker) paths h.1)
   constraint_weaker (Deny atoms) h = each_weaker (Named P) (Named Q) atom_weaker atoms h
 
-  head_weaker : (h : Head) → HeadNamed P h → HeadNamed Q h
+  pub head_weaker : (h : Head) → HeadNamed P h → HeadNamed Q h
   head_weaker (head.Class name subject) h = k kinds.Class name.0 h
   head_weaker (head.Role name from to) h = k kinds.Role name.0 h
   head_weaker (head.Attr name from value) h = k kinds.Attr name.0 h
