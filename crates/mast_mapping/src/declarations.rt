@@ -1,11 +1,10 @@
 //! Declared tables, read from `Table` nodes by the grammar's rules.
-ghost use Rattle.std.specs.Prelude.{◌≡◌, [], Err};
-ghost use Rattle.mast_terms.specs.Answers.{Answers};
+ghost use Rattle.std.specs.Prelude.{[]};
 ghost use Rattle.mast_tree.specs.Results.{Gives};
 ghost use Rattle.mast_tree.specs.Said.{said};
 ghost use Rattle.mast_mapping.specs.Declarations as spec;
 ghost use Rattle.mast_mapping.specs.OverTables.{table_names};
-ghost use Rattle.mast_mapping.specs.inside.Declared.{IsDeclared, AreDeclared, names_of};
+ghost use Rattle.mast_mapping.specs.inside.Declared.{ReadsTable, ReadsColumns, ReadsColumn, names_of};
 ghost use Rattle.mast_mapping.specs.inside.Readers.{doc_of};
 
 use crate::doc_reader::{DocReader, wrong};
@@ -25,7 +24,7 @@ impl<'r, 'a> DocReader<'r, 'a> {
         line: u32,
         items: &[Item],
     ) -> Result<(TableDecl, KindIndex), Stop<ShapeBreach>>
-        ensures { Answers result (IsDeclared (spec.table_in (doc_of self.now) (table_names before.now) line items.now)) (λ breach. spec.table_in (doc_of self.now) (table_names before.now) line items.now ≡ Err breach) }
+        ensures { ReadsTable (spec.table_in (doc_of self.now) (table_names before.now) line items.now) result }
     {
         match items {
             [name, file, _, ..] => {
@@ -68,7 +67,7 @@ impl<'r, 'a> DocReader<'r, 'a> {
         alloc: Global,
         items: &[Item],
     ) -> Result<(List<Column>, KindIndex), Stop<ShapeBreach>>
-        ensures { Answers result (AreDeclared (spec.columns_of (doc_of self.now) [] items.now)) (λ breach. spec.columns_of (doc_of self.now) [] items.now ≡ Err breach) }
+        ensures { ReadsColumns (spec.columns_of (doc_of self.now) [] items.now) result }
     {
         let mut columns = List::new(alloc);
         let mut kinds = KindIndex::new(alloc);
@@ -87,7 +86,7 @@ impl<'r, 'a> DocReader<'r, 'a> {
         before: &KindIndex,
         item: &Item,
     ) -> Result<Column, Stop<ShapeBreach>>
-        ensures { Gives result (spec.column_of (doc_of self.now) (names_of before.now) (said (doc_of self.now) item.now)) }
+        ensures { ReadsColumn (doc_of self.now) (names_of before.now) item.now result }
     {
         match self.doc.layer(item) {
             Layer::Node { word, line, items } => {

@@ -1,13 +1,11 @@
 //! Heads of maps, read by the grammar's rules over the outputs of their source query.
-ghost use Rattle.std.specs.Prelude.{◌≡◌, [], List, ℕ, Option, Some};
-ghost use Rattle.mast_terms.specs.declared.date.Date.{Date as ADate};
+ghost use Rattle.std.specs.Prelude.{◌≡◌, [], Some};
 ghost use Rattle.mast_terms.specs.declared.name.NameKind.TheVariants as kind;
-ghost use Rattle.mast_tree.specs.Constants.{AreDates, constant_of, identifier_of};
 ghost use Rattle.mast_tree.specs.Results.{Gives};
 ghost use Rattle.mast_tree.specs.Said.{said};
 ghost use Rattle.mast_mapping.specs.Heads as spec;
-ghost use Rattle.mast_mapping.specs.inside.Readers.{doc_of, scope};
-ghost use Rattle.mast_mapping.specs.inside.ReadHeads.{ReadsHead, ReadsItems, ReadsHeads};
+ghost use Rattle.mast_mapping.specs.inside.Readers.{ByDates};
+ghost use Rattle.mast_mapping.specs.inside.ReadHeads.{ReadsHead, ReadsItems, ReadsHeads, constant_at, output_at};
 
 use crate::doc_reader::{DocReader, wrong};
 use crate::name_index::NameIndex;
@@ -46,7 +44,7 @@ impl<'r, 'a> HeadReader<'r, 'a> {
         vocab: &mut Vocabulary,
         items: &[Item],
     ) -> Result<List<Head>, Stop<ShapeBreach>>
-        ensures { (dates : List ℕ → Option ADate) → AreDates dates → ReadsHeads (scope dates self.now) items.now vocab.old vocab.new result }
+        ensures { ByDates self.now (λ s. ReadsHeads s items.now vocab.old vocab.new result) }
     {
         let mut heads = List::new(alloc);
         for item in items {
@@ -63,7 +61,7 @@ impl<'r, 'a> HeadReader<'r, 'a> {
         vocab: &mut Vocabulary,
         item: &Item,
     ) -> Result<Head, Stop<ShapeBreach>>
-        ensures { (dates : List ℕ → Option ADate) → AreDates dates → ReadsHead (scope dates self.now) item.now vocab.old vocab.new result }
+        ensures { ByDates self.now (λ s. ReadsHead s item.now vocab.old vocab.new result) }
     {
         match self.place.doc.layer(item) {
             Layer::Node { word, line, items } => match head_kind(word) {
@@ -84,7 +82,7 @@ impl<'r, 'a> HeadReader<'r, 'a> {
         line: u32,
         items: &[Item],
     ) -> Result<Head, Stop<ShapeBreach>>
-        ensures { (dates : List ℕ → Option ADate) → AreDates dates → ReadsItems (scope dates self.now) (Some kind.Class) line items.now vocab.old vocab.new result }
+        ensures { ByDates self.now (λ s. ReadsItems s (Some kind.Class) line items.now vocab.old vocab.new result) }
     {
         match items {
             [iri, subject] => {
@@ -108,7 +106,7 @@ impl<'r, 'a> HeadReader<'r, 'a> {
         line: u32,
         items: &[Item],
     ) -> Result<Head, Stop<ShapeBreach>>
-        ensures { (dates : List ℕ → Option ADate) → AreDates dates → ReadsItems (scope dates self.now) (Some kind.Role) line items.now vocab.old vocab.new result }
+        ensures { ByDates self.now (λ s. ReadsItems s (Some kind.Role) line items.now vocab.old vocab.new result) }
     {
         match items {
             [iri, from, to] => {
@@ -133,7 +131,7 @@ impl<'r, 'a> HeadReader<'r, 'a> {
         line: u32,
         items: &[Item],
     ) -> Result<Head, Stop<ShapeBreach>>
-        ensures { (dates : List ℕ → Option ADate) → AreDates dates → ReadsItems (scope dates self.now) (Some kind.Attr) line items.now vocab.old vocab.new result }
+        ensures { ByDates self.now (λ s. ReadsItems s (Some kind.Attr) line items.now vocab.old vocab.new result) }
     {
         match items {
             [iri, from, value] => {
@@ -152,7 +150,7 @@ impl<'r, 'a> HeadReader<'r, 'a> {
 
     // Obj(Identifier slot ..).
     fn object(&self, alloc: Global, item: &Item) -> Result<Template, Stop<ShapeBreach>>
-        ensures { (dates : List ℕ → Option ADate) → AreDates dates → Gives result (spec.object_of (scope dates self.now) (said (doc_of self.now.place) item.now)) }
+        ensures { ByDates self.now (λ s. Gives result (spec.object_of s (said s.doc item.now))) }
     {
         match self.place.doc.layer(item) {
             Layer::Node { word, line, items } => {
@@ -173,7 +171,7 @@ impl<'r, 'a> HeadReader<'r, 'a> {
         line: u32,
         items: &[Item],
     ) -> Result<Template, Stop<ShapeBreach>>
-        ensures { (dates : List ℕ → Option ADate) → AreDates dates → Gives result (spec.object_in (scope dates self.now) line items.now) }
+        ensures { ByDates self.now (λ s. Gives result (spec.object_in s line items.now)) }
     {
         match items {
             [] => Err(wrong(line, ShapeKind::Shape)),
@@ -188,7 +186,7 @@ impl<'r, 'a> HeadReader<'r, 'a> {
 
     // Slots, in order.
     fn slots(&self, alloc: Global, items: &[Item]) -> Result<List<Slot>, Stop<ShapeBreach>>
-        ensures { (dates : List ℕ → Option ADate) → AreDates dates → Gives result (spec.slots_of (scope dates self.now) [] items.now) }
+        ensures { ByDates self.now (λ s. Gives result (spec.slots_of s [] items.now)) }
     {
         let mut slots = List::new(alloc);
         for item in items {
@@ -200,7 +198,7 @@ impl<'r, 'a> HeadReader<'r, 'a> {
 
     // An output of the source query, or a constant.
     fn slot(&self, alloc: Global, item: &Item) -> Result<Slot, Stop<ShapeBreach>>
-        ensures { (dates : List ℕ → Option ADate) → AreDates dates → Gives result (spec.slot_of (scope dates self.now) (said (doc_of self.now.place) item.now)) }
+        ensures { ByDates self.now (λ s. Gives result (spec.slot_of s (said s.doc item.now))) }
     {
         match self.place.doc.layer(item) {
             Layer::Name { line, .. } => self.output(alloc, line, item),
@@ -212,17 +210,9 @@ impl<'r, 'a> HeadReader<'r, 'a> {
         }
     }
 
-    // A constant in a slot.
-    fn constant(&self, alloc: Global, item: &Item) -> Result<Slot, Stop<ShapeBreach>>
-        ensures { (dates : List ℕ → Option ADate) → AreDates dates → Gives result (spec.constant_slot (constant_of dates (doc_of self.now.place) (said (doc_of self.now.place) item.now))) }
-    {
-        let value = self.place.doc.constant(alloc, item)?;
-        Ok(Slot::Constant(value))
-    }
-
     // A leaf at a line that is an output of the source query.
     fn output(&self, alloc: Global, line: u32, item: &Item) -> Result<Slot, Stop<ShapeBreach>>
-        ensures { Gives result (spec.output_among self.now.outputs.now (identifier_of (said (doc_of self.now.place) item.now)) line) }
+        ensures { Gives result (output_at self.now line item.now) }
     {
         let name = self.place.identifier(alloc, item)?;
         if self.outputs.has(name.as_str()) {
@@ -230,5 +220,13 @@ impl<'r, 'a> HeadReader<'r, 'a> {
         } else {
             Err(wrong(line, ShapeKind::UnknownColumn))
         }
+    }
+
+    // A constant in a slot.
+    fn constant(&self, alloc: Global, item: &Item) -> Result<Slot, Stop<ShapeBreach>>
+        ensures { ByDates self.now (λ s. Gives result (constant_at s item.now)) }
+    {
+        let value = self.place.doc.constant(alloc, item)?;
+        Ok(Slot::Constant(value))
     }
 }

@@ -1,6 +1,6 @@
 //! Mappings: which rows of which tables give members of classes, fillers of roles and values of attributes.
-//! The crates above rest on `read_mappings`: it gives the tables and the maps that a document says, or the document's first breach.
-//! In `specs/`, `Documents` has what a document says, `Declarations`, `Maps`, `Queries` and `Heads` its parts, `Split` the split maps.
+//! The crates above rest on `read_mappings`: it gives a document's tables and maps, or the document's first breach.
+//! The words of its contracts stand in `specs/`: Documents, and for its parts Declarations, Maps, Queries, Heads; Split.
 //! It must not know of facts and rows, of axioms and constraints, nor how a refusal is printed.
 #![tactic(auto)]
 
