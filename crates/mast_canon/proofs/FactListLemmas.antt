@@ -10,6 +10,7 @@ use Rattle.mast_terms.specs.declared.value.Value.{Value}
 use Rattle.mast_cq.specs.Meanings.{Fact, InClass, InRole, InAttr}
 use Rattle.mast_cq.specs.Queries.{In}
 use Rattle.mast_cq.proofs.ListLemmas.{each_in, in_each, in_append, append_left, append_right, map_in}
+use Rattle.mast_terms.specs.declared.name.NameKind.TheVariants as kinds
 use Rattle.mast_mapping.specs.declared.map.Head.{Head}
 use Rattle.mast_mapping.specs.declared.map.Head.TheVariants.{Class, Role, Attr}
 use Rattle.mast_mapping.specs.declared.map.Template.{Template}
@@ -25,7 +26,6 @@ use Rattle.mast_tbox.proofs.ThroughLemmas.{dec_and, dec_as}
 use Rattle.mast_canon.specs.declared.rows.RowId.{RowId}
 use Rattle.mast_canon.specs.Choices.{rows_of, IsRowNumber, IsChoice, chosen, compare, operand_value, IsTrueOf, Meets}
 use Rattle.mast_canon.specs.Facts.{of_both, slot_value, slot_values, object_of, fact_of, Gives, chosen_rows, IsSupport, IsFactOf}
-use Rattle.mast_canon.specs.Named.{HeadNamed}
 use Rattle.mast_canon.specs.TheoryPremises.{FactInRange, IsSorted}
 use Rattle.mast_canon.specs.WorldLaws.{IsListed}
 
@@ -212,13 +212,19 @@ named_two g None q f k e = cc
 named_two g (Some x) None f k e = cc
 named_two g (Some x) (Some y) f k e = let w : g x y ≡ f = cc in subst FactInRange w (k x y)
 
-head_in_range : (decls : List TableDecl) (query : SourceQuery) (rows : List Row) (head : Head) (f : Fact Term) → HeadNamed IsStatable head → fact_of decls query rows head ≡ Some f → FactInRange f
+-- the name of a head is one that documents may use
+abbrev pub IsHeadStatable : Head → Type 0
+IsHeadStatable (Class name subject) = IsStatable kinds.Class name.0
+IsHeadStatable (Role name from to) = IsStatable kinds.Role name.0
+IsHeadStatable (Attr name from value) = IsStatable kinds.Attr name.0
+
+head_in_range : (decls : List TableDecl) (query : SourceQuery) (rows : List Row) (head : Head) (f : Fact Term) → IsHeadStatable head → fact_of decls query rows head ≡ Some f → FactInRange f
 head_in_range decls query rows (Class name subject) f n e = named_one (λ t. InClass name t) (object_of decls query rows subject) f (λ t. n) e
 head_in_range decls query rows (Role name from to) f n e = named_two (λ t u. InRole name t u) (object_of decls query rows from) (object_of decls query rows to) f (λ t u. n) e
 head_in_range decls query rows (Attr name from value) f n e = named_two (λ t v. InAttr name t (term.Value v)) (object_of decls query rows from) (slot_value decls query rows value) f (λ t v. n) e
 
 -- facts of split mappings whose names are in range are in range
-pub facts_in_range : (decls : List TableDecl) (tables : List (List Row)) (maps : List SplitMap) (X : RowId → Type 0) → AllByRecursion (λ m. HeadNamed IsStatable m.head) maps → (f : Fact Term) → IsFactOf decls tables maps X f → FactInRange f
+pub facts_in_range : (decls : List TableDecl) (tables : List (List Row)) (maps : List SplitMap) (X : RowId → Type 0) → AllByRecursion (λ m. IsHeadStatable m.head) maps → (f : Fact Term) → IsFactOf decls tables maps X f → FactInRange f
 facts_in_range decls tables maps X named f h =
     let s = h.support in
-    head_in_range decls s.map.query (chosen decls tables s.map.query.from s.choice) s.map.head f (each_in (λ (m : SplitMap). HeadNamed IsStatable m.head) s.map maps named s.stands) s.gives.gives
+    head_in_range decls s.map.query (chosen decls tables s.map.query.from s.choice) s.map.head f (each_in (λ (m : SplitMap). IsHeadStatable m.head) s.map maps named s.stands) s.gives.gives

@@ -15,6 +15,7 @@ use Rattle.mast_cq.specs.UnifierMeanings.{IsBelow, KnownArg, KnownAtom}
 use Rattle.mast_mapping.specs.declared.map.Head.{Head}
 use Rattle.mast_mapping.specs.declared.map.Head.TheVariants as head
 use Rattle.mast_mapping.specs.declared.split_map.SplitMap.{SplitMap}
+use Rattle.mast_mapping.specs.InRange.{IsHeadIn}
 use Rattle.mast_tbox.specs.declared.axiom.Inclusion.{Inclusion}
 use Rattle.mast_tbox.specs.declared.axiom.Inclusion.TheVariants as inclusion
 use Rattle.mast_tbox.specs.declared.axiom.Lined.{Lined}
@@ -31,10 +32,10 @@ use Rattle.mast_tbox.specs.declared.expression.Prop.TheVariants as prop
 use Rattle.mast_tbox.specs.declared.expression.RoleExpr.{RoleExpr}
 use Rattle.mast_tbox.specs.declared.expression.RoleExpr.TheVariants.{Direct, Inverse}
 use Rattle.mast_tbox.specs.Lists.{items}
-use Rattle.mast_tbox.specs.Names.{RoleNamed, PropNamed, BasicNamed, EndNamed, InclusionNamed}
-use Rattle.mast_canon.specs.Conditions.{StandsIn, ConstantsStandIn, AxiomsInRange, ConstraintsInRange, SplitInRange}
+use Rattle.mast_tbox.specs.Names.{RoleNamed, PropNamed, BasicNamed, EndNamed, InclusionNamed, NegativeNamed, StepNamed, ConstraintNamed}
+use Rattle.mast_tbox.specs.Vocabularies.{StandsIn, ConstantsStandIn, AxiomsInRange, ConstraintsInRange}
+use Rattle.mast_canon.specs.Conditions.{SplitInRange}
 use Rattle.mast_tree.specs.Growing.{BeginsWith, Begins}
-use Rattle.mast_canon.specs.Named.{NegativeNamed, StepNamed, ConstraintNamed, HeadNamed}
 use Rattle.mast_canon.proofs.SupportLemmas.{each_weaker}
 
 -- a place of a list is a place of each that begins with it
@@ -95,11 +96,6 @@ module _ (P Q : NameKind → ℕ → Type 0) (k : (kind : NameKind) (n : ℕ) �
   constraint_weaker (Identify b paths) h = (basic_weaker b h.0, each_weaker (AllByRecursion (StepNamed P)) (AllByRecursion (StepNamed Q)) (each_weaker (StepNamed P) (StepNamed Q) step_weaker) paths h.1)
   constraint_weaker (Deny atoms) h = each_weaker (Named P) (Named Q) atom_weaker atoms h
 
-  pub head_weaker : (h : Head) → HeadNamed P h → HeadNamed Q h
-  head_weaker (head.Class name subject) h = k kinds.Class name.0 h
-  head_weaker (head.Role name from to) h = k kinds.Role name.0 h
-  head_weaker (head.Attr name from value) h = k kinds.Attr name.0 h
-
 arg_known : (m n : ℕ) → ((c : ℕ) → c < m → c < n) → (x : Arg) → KnownArg (IsBelow m) x → KnownArg (IsBelow n) x
 arg_known m n k Blank h = tt
 arg_known m n k (Var x) h = tt
@@ -134,6 +130,11 @@ module _ (new old : Lists) (b : Begins new old) where
     constants = each_weaker (ConstantsStandIn old) (ConstantsStandIn new) (constants_stay new old b) (items constraints) h.constants;
   }
 
+  head_stays : (h : Head) → IsHeadIn old h → IsHeadIn new h
+  head_stays (head.Class name subject) h = name_stays new old b kinds.Class name.0 h
+  head_stays (head.Role name from to) h = name_stays new old b kinds.Role name.0 h
+  head_stays (head.Attr name from value) h = name_stays new old b kinds.Attr name.0 h
+
   -- split mappings
   pub maps_stay : (maps : List SplitMap) → SplitInRange old maps → SplitInRange new maps
-  maps_stay maps h = each_weaker (λ (m : SplitMap). HeadNamed (StandsIn old) m.head) (λ (m : SplitMap). HeadNamed (StandsIn new) m.head) (λ m. head_weaker (StandsIn old) (StandsIn new) (name_stays new old b) m.head) maps h
+  maps_stay maps h = each_weaker (λ (m : SplitMap). IsHeadIn old m.head) (λ (m : SplitMap). IsHeadIn new m.head) (λ m. head_stays m.head) maps h

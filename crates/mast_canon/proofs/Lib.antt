@@ -1,6 +1,8 @@
 pub mod AnchorLemmas
+mod AnswerExamples
 pub mod ChoiceLemmas
 pub mod ConditionLemmas
+pub mod ConflictLemmas
 pub mod DecidedKeptLemmas
 pub mod DecisionLemmas
 mod Examples
@@ -20,7 +22,6 @@ pub mod ModelsLemmas
 pub mod NormalFactLemmas
 pub mod OriginLemmas
 pub mod OverLemmas
-pub mod PremiseLemmas
 pub mod RowLemmas
 pub mod SpecLemmas
 pub mod SupportLemmas

@@ -16,8 +16,10 @@ use Rattle.mast_tbox.specs.declared.constraint.Constraints.{Constraints}
 use Rattle.mast_tbox.specs.declared.expression.Prop.{Prop}
 use Rattle.mast_tbox.specs.declared.restriction.RestrictionBreach.{RestrictionBreach}
 use Rattle.mast_tbox.specs.declared.tbox.Ontology.{Ontology}
+use Rattle.mast_tbox.specs.ConstraintForms.{HaveForm}
 use Rattle.mast_tbox.specs.Restrictions.{IsRestrictionBreach}
-use Rattle.mast_canon.specs.Conditions.{AxiomsInRange, ConstraintsInRange, SplitInRange, HaveForm, SplitOverTables, HasNumbers}
+use Rattle.mast_tbox.specs.Vocabularies.{AxiomsInRange, ConstraintsInRange}
+use Rattle.mast_canon.specs.Conditions.{SplitInRange, SplitOverTables, HasNumbers}
 use Rattle.mast_tree.specs.Growing.{Begins}
 use Rattle.mast_canon.specs.Premises.{AreMappings, AreOneSpecification, IsRefusedAtBreach}
 use Rattle.mast_canon.proofs.GrowthLemmas.{axioms_stay, constraints_stay, maps_stay}

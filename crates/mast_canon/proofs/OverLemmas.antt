@@ -6,14 +6,14 @@ use Rattle.mast_terms.specs.Vocabularies.{Lists}
 use Rattle.mast_mapping.specs.declared.map.Head.{Head}
 use Rattle.mast_mapping.specs.declared.map.Map.{Map}
 use Rattle.mast_mapping.specs.declared.split_map.SplitMap.{SplitMap}
+use Rattle.mast_mapping.specs.InRange.{AreInRange, IsHeadIn}
 use Rattle.mast_mapping.specs.OverTables.{AreOverTables, IsHeadOver, IsOverTables}
 use Rattle.mast_mapping.specs.Queries.{query_breach}
 use Rattle.mast_mapping.specs.Split.{split_heads, split_maps}
 use Rattle.mast_sql.specs.declared.query.SourceQuery.{SourceQuery}
 use Rattle.mast_tables.specs.declared.declaration.TableDecl.{TableDecl}
 use Rattle.mast_tbox.specs.Restrictions.{IsRestrictionBreach}
-use Rattle.mast_canon.specs.Conditions.{StandsIn, MapsInRange, SplitInRange, SplitOverTables}
-use Rattle.mast_canon.specs.Named.{HeadNamed}
+use Rattle.mast_canon.specs.Conditions.{SplitInRange, SplitOverTables}
 
 -- what holds of each of two lists holds of each of both
 pub each_append : {X : Type 0} (P : X → Type 0) (xs ys : List X) → AllByRecursion P xs → AllByRecursion P ys → AllByRecursion P (xs ++ ys)
@@ -22,14 +22,14 @@ each_append P (x ∷ xs) ys h k = (h.0, each_append P xs ys h.1 k)
 
 module _ (lists : Lists) where
   abbrev HeadStands : SplitMap → Type 0
-  HeadStands m = HeadNamed (StandsIn lists) m.head
+  HeadStands m = IsHeadIn lists m.head
 
-  heads_in_range : (query : SourceQuery) (heads : List Head) → AllByRecursion (HeadNamed (StandsIn lists)) heads → AllByRecursion HeadStands (split_heads query heads)
+  heads_in_range : (query : SourceQuery) (heads : List Head) → AllByRecursion (IsHeadIn lists) heads → AllByRecursion HeadStands (split_heads query heads)
   heads_in_range query [] h = tt
   heads_in_range query (x ∷ heads) h = (h.0, heads_in_range query heads h.1)
 
   -- the names of split mappings are in range where those of the mappings are
-  pub split_in_range : (maps : List Map) → MapsInRange lists maps → SplitInRange lists (split_maps maps)
+  pub split_in_range : (maps : List Map) → AreInRange lists maps → SplitInRange lists (split_maps maps)
   split_in_range [] h = tt
   split_in_range (m ∷ maps) h = each_append HeadStands (split_heads m.query m.heads) (split_maps maps) (heads_in_range m.query m.heads h.0) (split_in_range maps h.1)
 

@@ -9,7 +9,10 @@ use Rattle.mast_terms.specs.declared.name.NameKind.TheVariants as kinds
 use Rattle.mast_terms.specs.declared.term.Term.{Term}
 use Rattle.mast_terms.specs.Vocabularies.{Lists, IsVocabulary}
 use Rattle.mast_cq.specs.Meanings.{Fact, InClass, InRole, InAttr}
+use Rattle.mast_mapping.specs.declared.map.Head.{Head}
+use Rattle.mast_mapping.specs.declared.map.Head.TheVariants as head
 use Rattle.mast_mapping.specs.declared.split_map.SplitMap.{SplitMap}
+use Rattle.mast_mapping.specs.InRange.{IsHeadIn}
 use Rattle.mast_tables.specs.Rows.{Row}
 use Rattle.mast_tbox.specs.declared.axiom.Inclusion.{Inclusion}
 use Rattle.mast_tbox.specs.declared.axiom.Inclusion.TheVariants.{Class as IClass, Exists, HasValue, Role as IRole, Attr as IAttr, Range}
@@ -27,17 +30,17 @@ use Rattle.mast_tbox.specs.Names.{RoleNamed, BasicNamed, EndNamed, InclusionName
 use Rattle.mast_tbox.specs.Restrictions.{IsRestrictionBreach, NoneOf}
 use Rattle.mast_tbox.proofs.MemberLemmas.{none, first_or}
 use Rattle.mast_tbox.proofs.ThroughLemmas.{dec_and}
+use Rattle.mast_tbox.specs.Vocabularies.{StandsIn, AxiomsInRange}
 use Rattle.mast_canon.specs.declared.rows.RowId.{RowId}
 use Rattle.mast_canon.specs.declared.spec.Spec.{Spec}
-use Rattle.mast_canon.specs.Conditions.{StandsIn, AxiomsInRange, SplitInRange}
+use Rattle.mast_canon.specs.Conditions.{SplitInRange}
 use Rattle.mast_canon.specs.Facts.{IsOfTables}
-use Rattle.mast_canon.specs.Named.{HeadNamed}
 use Rattle.mast_canon.specs.SpecFacts.{FactsOf, AllFacts}
 use Rattle.mast_canon.specs.Theories.{theory_of}
 use Rattle.mast_canon.specs.TheoryPremises.{AreSorted, FactInRange, FactsInRange, IsRestricted, IsStated}
 use Rattle.mast_canon.specs.WorldLaws.{IsListed}
-use Rattle.mast_canon.proofs.FactListLemmas.{at_most, facts_listed, facts_sorted, facts_in_range}
-use Rattle.mast_canon.proofs.GrowthLemmas.{inclusion_weaker, head_weaker}
+use Rattle.mast_canon.proofs.FactListLemmas.{IsHeadStatable, at_most, facts_listed, facts_sorted, facts_in_range}
+use Rattle.mast_canon.proofs.GrowthLemmas.{inclusion_weaker}
 use Rattle.mast_canon.proofs.SupportLemmas.{each_weaker}
 
 bottom_prop : IsProp ⊥
@@ -72,7 +75,8 @@ stands_statable lists v kinds.Class n h = omega (arith, h, v.classes.few)
 stands_statable lists v kinds.Role n h = omega (arith, h, v.roles.few)
 stands_statable lists v kinds.Attr n h = omega (arith, h, v.attributes.few)
 
-each_contains : {X : Type 0} (P : X → Type 0) (xs : List X) → AllByRecursion P xs → (x : X) → Contains xs x → P x
+-- what all of a list have, each contained one has
+pub each_contains : {X : Type 0} (P : X → Type 0) (xs : List X) → AllByRecursion P xs → (x : X) → Contains xs x → P x
 each_contains P [] h x c = absurd (none x c)
 each_contains P (y ∷ xs) h x c = elim (first_or y xs x c) [ inl e ↦ subst P (sym e) h.0 | inr d ↦ each_contains P xs h.1 x d ]
 
@@ -114,10 +118,13 @@ fact_prop (InClass a t) = name_prop kinds.Class a.0
 fact_prop (InRole p t u) = name_prop kinds.Role p.0
 fact_prop (InAttr v t u) = name_prop kinds.Attr v.0
 
-heads_statable : (lists : Lists) → IsVocabulary lists → (maps : List SplitMap) → SplitInRange lists maps → AllByRecursion (λ m. HeadNamed IsStatable m.head) maps
-heads_statable lists v maps h =
-    each_weaker (λ (m : SplitMap). HeadNamed (StandsIn lists) m.head) (λ (m : SplitMap). HeadNamed IsStatable m.head)
-    (λ m. head_weaker (StandsIn lists) IsStatable (stands_statable lists v) m.head) maps h
+head_statable : (lists : Lists) → IsVocabulary lists → (h : Head) → IsHeadIn lists h → IsHeadStatable h
+head_statable lists v (head.Class name subject) h = stands_statable lists v kinds.Class name.0 h
+head_statable lists v (head.Role name from to) h = stands_statable lists v kinds.Role name.0 h
+head_statable lists v (head.Attr name from value) h = stands_statable lists v kinds.Attr name.0 h
+
+heads_statable : (lists : Lists) → IsVocabulary lists → (maps : List SplitMap) → SplitInRange lists maps → AllByRecursion (λ m. IsHeadStatable m.head) maps
+heads_statable lists v maps h = each_weaker (λ (m : SplitMap). IsHeadIn lists m.head) (λ (m : SplitMap). IsHeadStatable m.head) (λ m. head_statable lists v m.head) maps h
 
 -- so are the facts of rows
 pub rows_in_range : (spec : Spec) (tables : List (List Row)) (X : RowId → Type 0) → IsVocabulary spec.vocab → FactsInRange (FactsOf spec tables X)

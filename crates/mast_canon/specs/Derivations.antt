@@ -17,7 +17,8 @@ use Rattle.mast_canon.specs.Memberships.{pair_fact, shows}
 pub data FactStep (tbox : List Inclusion) (f g : Fact Element) : Type 0 where
   into_class : (b : Basic) (a : Name) (t u : Element) → Contains tbox (IClass b a) → f ≡ shows b t u → g ≡ InClass a t → FactStep tbox f g
   adds : (b : Basic) (p : Prop) (k : ℕ) (t u : Element) → Adds tbox b p k → f ≡ shows b t u → g ≡ pair_fact p t (Successor t k) → FactStep tbox f g
-  ends : (b : Basic) (r : RoleExpr) (a : Name) (k : ℕ) (t u : Element) → Contains tbox (Exists b r (Some a) k) → f ≡ shows b t u → g ≡ InClass a (Successor t k) → FactStep tbox f g
+  ends : (b : Basic) (r : RoleExpr) (a : Name) (k : ℕ) (t u : Element) → Contains tbox (Exists b r (Some a) k)
+      → f ≡ shows b t u → g ≡ InClass a (Successor t k) → FactStep tbox f g
   widens : (p q : Prop) (t u : Element) → States tbox p q → f ≡ pair_fact p t u → g ≡ pair_fact q t u → FactStep tbox f g
 
 -- the fact is one of F, which are over named terms

@@ -40,9 +40,13 @@ IsKindOf tbox P (Named (term.Value v)) kind = kind ≡ Some (value_kind v)
 IsKindOf tbox P (Named (term.Object o)) kind = kind ≡ None
 IsKindOf tbox P (Successor t k) kind = IsRangeKind P (Successor t k) tbox kind
 
+-- the fact holds, and its elements are kept
+abbrev pub IsKeptFact : Theory → (Fact Term → Type 0) → Fact Element → Type 0
+IsKeptFact theory F f = HoldsBy theory F f × OfElements (IsKept (stated theory) (HoldsBy theory F)) f
+
 -- Kept(F): the interpretation of the facts that hold of kept elements
 pub record IsKeptWorld (w : Interpretation Element) (theory : Theory) (F : Fact Term → Type 0) : Type 0 where
-  pub facts : (f : Fact Element) → IsTrue w f ↔ (HoldsBy theory F f × OfElements (IsKept (stated theory) (HoldsBy theory F)) f)
+  pub facts : (f : Fact Element) → IsTrue w f ↔ IsKeptFact theory F f
   pub names : (t : Term) → w.named t ≡ Named t
   pub kinds : (e : Element) → IsKindOf (stated theory) (HoldsBy theory F) e (w.kind e)
   pub fillers : (k : ℕ) (e : Element) → IsFill (stated theory) (HoldsBy theory F) k e (w.fill k e)

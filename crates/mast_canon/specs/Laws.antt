@@ -27,7 +27,8 @@ Passing test row = test row ≡ true
 abbrev pub FactsGrow : Type 0
 FactsGrow =
     (decls : List TableDecl) (tables : List (List Row)) (maps : List SplitMap) (small large : RowId → Bool) (fact : Fact Term)
-    → ((row : RowId) → Passing small row → Passing large row) → IsFactOf decls tables maps (Passing small) fact → IsFactOf decls tables maps (Passing large) fact
+    → ((row : RowId) → Passing small row → Passing large row)
+    → IsFactOf decls tables maps (Passing small) fact → IsFactOf decls tables maps (Passing large) fact
 
 -- the rows of a choice are rows of the tables
 abbrev pub ChoicesLieInTables : Type 0

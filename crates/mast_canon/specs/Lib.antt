@@ -1,6 +1,7 @@
 pub mod CertainAnswers
 pub mod Choices
 pub mod Conditions
+pub mod ConflictLaws
 pub mod Conflicts
 pub mod DerivationLaws
 pub mod Derivations
@@ -12,11 +13,11 @@ pub mod KeptTerms
 pub mod KeptWorlds
 pub mod Laws
 pub mod Memberships
-pub mod Named
 pub mod NoModels
 pub mod Places
 pub mod Premises
 pub mod RowOrder
+pub mod SeenWorlds
 pub mod SpecFacts
 pub mod SpecLaws
 pub mod Theories

@@ -46,7 +46,8 @@ BreaksNegative {X} P (Irreflexive role) = (t : X) × P (InRole role t t)
 -- a value of the attribute is not of the kind, or is one of an attribute with an earlier range of another kind
 pub data BreaksRange (P : Fact Element → Type 0) (earlier : List Inclusion) (attr : Name) (kind : Kind) : Type 0 where
   wrong : (t : Element) (v : Value) → P (InAttr attr t (Named (term.Value v))) → value_kind v ≢ kind → BreaksRange P earlier attr kind
-  two : (other : Name) (its : Kind) (t s v : Element) → Contains earlier (Range other its) → its ≢ kind → P (InAttr attr t v) → P (InAttr other s v) → BreaksRange P earlier attr kind
+  two : (other : Name) (its : Kind) (t s v : Element) → Contains earlier (Range other its) → its ≢ kind
+      → P (InAttr attr t v) → P (InAttr other s v) → BreaksRange P earlier attr kind
 
 -- a named term has two different named fillers or values by the property
 pub record BreaksFunctional (P : Fact Element → Type 0) (prop : Prop) : Type 0 where

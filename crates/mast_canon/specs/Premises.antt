@@ -6,18 +6,21 @@ use Rattle.mast_terms.specs.Vocabularies.{Lists}
 use Rattle.mast_tables.specs.declared.declaration.TableDecl.{TableDecl}
 use Rattle.mast_mapping.specs.declared.map.Mappings.{Mappings}
 use Rattle.mast_mapping.specs.declared.split_map.SplitMap.{SplitMap}
+use Rattle.mast_mapping.specs.InRange.{AreInRange}
 use Rattle.mast_mapping.specs.OverTables.{AreOverTables}
 use Rattle.mast_mapping.specs.Split.{split_maps}
 use Rattle.mast_tbox.specs.declared.constraint.Constraints.{Constraints}
 use Rattle.mast_tbox.specs.declared.restriction.RestrictionBreach.{RestrictionBreach}
 use Rattle.mast_tbox.specs.declared.tbox.Ontology.{Ontology}
+use Rattle.mast_tbox.specs.ConstraintForms.{HaveForm}
 use Rattle.mast_tbox.specs.Restrictions.{IsRestrictionBreach}
+use Rattle.mast_tbox.specs.Vocabularies.{AxiomsInRange, ConstraintsInRange}
 use Rattle.mast_tree.specs.Growing.{Begins}
-use Rattle.mast_canon.specs.Conditions.{AxiomsInRange, ConstraintsInRange, MapsInRange, SplitInRange, HaveForm, SplitOverTables, HasNumbers, TablesHaveNumbers}
+use Rattle.mast_canon.specs.Conditions.{SplitInRange, SplitOverTables, HasNumbers, TablesHaveNumbers}
 
 -- the names are in range, the maps are over the tables, and places have numbers of 32 bits
 pub record AreMappings (mappings : Mappings) : Type 0 where
-  pub names : MapsInRange mappings.vocab mappings.maps
+  pub names : AreInRange mappings.vocab mappings.maps
   pub over : AreOverTables mappings.tables mappings.maps
   pub tables : TablesHaveNumbers mappings.tables
   pub heads : HasNumbers (split_maps mappings.maps)

@@ -1,20 +1,20 @@
 //! What the definitions promise by themselves: laws, which no code calls.
-ghost use Rattle.std.specs.Prelude.{List};
-ghost use Rattle.mast_tables.specs.Rows.{Row};
-ghost use Rattle.mast_canon.specs.declared.spec.Spec.{Spec as Specification};
-ghost use Rattle.mast_canon.specs.DerivationLaws.{CertainGrows, DownHoldsUp, DownIsSound, DownIsWhatHolds, HoldsGrows, NamedGoBack, NoModelStays, NormalKeepsFacts};
+ghost use Rattle.std.specs.Prelude.{List, []};
+ghost use Rattle.mast_canon.specs.declared.rows.RowId.{RowId};
+ghost use Rattle.mast_canon.specs.ConflictLaws.{EachReads, HaveNoModel, IsConflict, IsProperPart};
+ghost use Rattle.mast_canon.specs.DerivationLaws.{CertainGrows, DownHoldsUp, DownIsSound, DownIsWhatHolds, HoldsGrows};
+ghost use Rattle.mast_canon.specs.DerivationLaws.{NamedGoBack, NoModelStays, NormalKeepsFacts};
 ghost use Rattle.mast_canon.specs.Elements.{Element};
 ghost use Rattle.mast_canon.specs.Interpretations.{DecidedInterpretation, decided};
-ghost use Rattle.mast_canon.specs.KeptWorlds.{IsKeptWorld};
 ghost use Rattle.mast_canon.specs.Laws.{ChoicesLieInTables, FactsGrow, SplitKeepsSupports, SupportsLieInTables};
-ghost use Rattle.mast_canon.specs.NoModels.{NoModel};
+ghost use Rattle.mast_canon.specs.SeenWorlds.{seen};
 ghost use Rattle.mast_canon.specs.SpecFacts.{AllFacts};
-ghost use Rattle.mast_canon.specs.SpecLaws.{KeptLaws};
+ghost use Rattle.mast_canon.specs.SpecLaws.{HasCertainAnswers, HasNoModel, IsWorldOf, KeptLaws};
 ghost use Rattle.mast_canon.specs.Theories.{Theory, theory_of};
-ghost use Rattle.mast_canon.specs.TheoryPremises.{AreSorted, IsRestricted};
-ghost use Rattle.mast_canon.specs.WorldLaws.{HasKeptWorld, IsListed, KeptLaw, ModelsLaw, WorldLaw};
+ghost use Rattle.mast_canon.specs.WorldLaws.{HasKeptWorld, IsListed, IsWellFormed, KeptIsWorld, ModelsLaw, WorldLaw};
 ghost use Rattle.mast_canon.specs.Worlds.{IsWorld};
 
+use crate::{Spec, Tables, World};
 use mast_cq::Truth;
 use mast_terms::Term;
 
@@ -54,28 +54,43 @@ pub fn through_law<S: Truth<Term>>()
     ensures back { (facts : S) → NamedGoBack (S.holds facts) }
 {}
 
-/// Facts of a world have a model, and their certain answers are answers in it.
+/// Facts of a world have a model, and their certain answers are answers in it: facts of all rows of a specification's
+/// tables, and any world over terms.
+pub fn world_law<W: World>(world: &W, spec: &Spec, tables: &Tables)
+    requires { IsWorldOf (seen W.World world.now) spec.now tables.now.list }
+    ensures model { HasNoModel spec.now tables.now.list → ⊥ }
+    ensures answers { HasCertainAnswers (seen W.World world.now) spec.now tables.now.list }
+{}
+
+/// 'No model' and 'certain' have their ordinary meaning over the worlds whose relations are decided, whatever cells the
+/// tables have. A kept interpretation is one of them.
+pub fn models_law(spec: &Spec, tables: &Tables)
+    ensures models { ModelsLaw (theory_of spec.now) (AllFacts spec.now tables.now.list) }
+    ensures kept { KeptLaws spec.now tables.now.list }
+{}
+
+/// No rows are no conflict, where each mapping reads a table; and each proper part of a conflict has a model.
+pub fn conflict_law(spec: &Spec, tables: &Tables)
+    ensures empty { EachReads spec.now → IsConflict spec.now tables.now.list [] → ⊥ }
+    ensures parts { (part rows : List RowId) → IsConflict spec.now tables.now.list rows → IsProperPart part rows
+        → HaveNoModel spec.now tables.now.list part → ⊥ }
+{}
+
+/// The World law over any facts: those of a decided world have a model, and their certain answers are answers in it.
 pub fn decided_world_law<S: Truth<Term>>()
     ensures { (w : DecidedInterpretation Element) (theory : Theory) (facts : S)
         → IsWorld (decided w) theory (S.holds facts) → WorldLaw (decided w) theory (S.holds facts) }
 {}
 
-/// Where the facts of a list have a model, each kept interpretation of them is a world of them, whose answers in named terms
-/// are the certain ones. There is one, and its relations are decided.
+/// The Kept law over any list of facts: where they have a model, each kept interpretation of them is a world of them, whose
+/// answers in named terms are the certain ones. There is one, and its relations are decided.
 pub fn decided_kept_law<S: Truth<Term>>()
-    ensures kept { (w : DecidedInterpretation Element) (theory : Theory) (facts : S) → IsRestricted theory → IsListed (S.holds facts) → AreSorted (S.holds facts)
-        → (NoModel theory (S.holds facts) → ⊥) → IsKeptWorld (decided w) theory (S.holds facts) → KeptLaw (decided w) theory (S.holds facts) }
+    ensures kept { (w : DecidedInterpretation Element) (theory : Theory) (facts : S)
+        → IsWellFormed theory (S.holds facts) → KeptIsWorld (decided w) theory (S.holds facts) }
     ensures exists { (theory : Theory) (facts : S) → IsListed (S.holds facts) → HasKeptWorld theory (S.holds facts) }
 {}
 
-/// 'No model' and 'certain' have their ordinary meaning: the facts of a list break nothing exactly where there is a world of
-/// them, and then a tuple is a certain answer exactly where it is an answer in every world.
+/// The Models law over any list of facts.
 pub fn decided_models_law<S: Truth<Term>>()
-    ensures { (theory : Theory) (facts : S) → IsRestricted theory → IsListed (S.holds facts) → AreSorted (S.holds facts) → ModelsLaw theory (S.holds facts) }
-{}
-
-/// The laws of models hold of each specification and the facts of its tables, whatever cells these have.
-pub fn models_law()
-    ensures kept { (spec : Specification) (tables : List (List Row)) → KeptLaws spec tables }
-    ensures models { (spec : Specification) (tables : List (List Row)) → ModelsLaw (theory_of spec) (AllFacts spec tables) }
+    ensures { (theory : Theory) (facts : S) → IsWellFormed theory (S.holds facts) → ModelsLaw theory (S.holds facts) }
 {}

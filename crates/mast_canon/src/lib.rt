@@ -10,12 +10,14 @@ mod making;
 mod origin;
 mod rows;
 mod spec;
+mod world;
 
 pub use columns::{Place, output_place, place_of, table_number};
 pub use laws::{
-    decided_kept_law, decided_models_law, decided_world_law, growth_law, models_law, normal_law,
-    split_law, support_law, through_law,
+    conflict_law, decided_kept_law, decided_models_law, decided_world_law, growth_law, models_law,
+    normal_law, split_law, support_law, through_law, world_law,
 };
 pub use origin::{Ground, Origin};
 pub use rows::{RowId, Tables, row_laws};
 pub use spec::Spec;
+pub use world::World;

@@ -1,9 +1,11 @@
 //! Specifications.
 ghost use Rattle.std.specs.Prelude.{◌≡◌, None};
+ghost use Rattle.mast_tbox.specs.ConstraintForms.{HaveForm};
 ghost use Rattle.mast_tbox.specs.Inclusions.{normal as normal_inclusions};
 ghost use Rattle.mast_tbox.specs.Lists.{items};
 ghost use Rattle.mast_tbox.specs.Restrictions.{IsRestrictionBreach};
-ghost use Rattle.mast_canon.specs.Conditions.{AxiomsInRange, ConstraintsInRange, SplitInRange, HaveForm, SplitOverTables, HasNumbers, TablesHaveNumbers};
+ghost use Rattle.mast_tbox.specs.Vocabularies.{AxiomsInRange, ConstraintsInRange};
+ghost use Rattle.mast_canon.specs.Conditions.{SplitInRange, SplitOverTables, HasNumbers, TablesHaveNumbers};
 
 use mast_mapping::SplitMap;
 use mast_tables::TableDecl;

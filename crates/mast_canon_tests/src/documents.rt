@@ -5,7 +5,7 @@ ghost use Rattle.mast_canon.specs.Conditions.{HasNumbers, TablesHaveNumbers};
 ghost use Rattle.mast_canon.specs.Premises.{AreMappings};
 ghost use Rattle.mast_constr.specs.Kept.{AreKept};
 ghost use Rattle.mast_mapping.specs.Split.{split_maps};
-ghost use Rattle.mast_onto.specs.Known.{AreKnown};
+ghost use Rattle.mast_onto.specs.Known.{HasNames};
 ghost use Rattle.mast_tree.specs.Growing.{Begins};
 ghost use Rattle.mast_tree.specs.Source.{AreTokens};
 
@@ -14,8 +14,8 @@ use mast_mapping::{Map, Mappings, read_mappings};
 use mast_onto::read_ontology;
 use mast_tables::TableDecl;
 use mast_tbox::{Constraints, Ontology};
-use mast_terms::{List, NoMemory, Stop, Vocabulary};
-use mast_tree::{Doc, ShapeBreach, Token, read_doc, tokens};
+use mast_terms::{List, NoMemory, Vocabulary};
+use mast_tree::{Token, read_doc, tokens};
 use std::alloc::Global;
 
 // The tokens of a source.
@@ -37,7 +37,7 @@ fn listed(alloc: Global, source: &[u8]) -> Result<List<Token>, NoMemory>
 
 /// The ontology of a source, over no names.
 pub(crate) fn ontology_of(alloc: Global, source: &[u8]) -> Result<Ontology, NoMemory>
-    ensures { IfOk result (λ ontology. AreKnown ontology.vocab ontology.tbox) }
+    ensures { IfOk result HasNames }
 {
     let list = listed(alloc, source)?;
     let Ok(doc) = read_doc(alloc, source, list.as_slice()) else {
@@ -49,18 +49,6 @@ pub(crate) fn ontology_of(alloc: Global, source: &[u8]) -> Result<Ontology, NoMe
     }
 }
 
-// The constraints of a document; what their reader tells of them is told without dates.
-fn read_over(
-    alloc: Global,
-    doc: &Doc<'_>,
-    vocab: Vocabulary,
-) -> Result<Constraints, Stop<ShapeBreach>>
-    ensures begins { IfOk result (λ constraints. Begins constraints.vocab vocab) }
-    ensures kept { IfOk result (λ constraints. AreKept constraints.vocab constraints.list) }
-{
-    read_constraints(alloc, doc, vocab)
-}
-
 /// The constraints of a source, over these names.
 pub(crate) fn constraints_of(
     alloc: Global,
@@ -68,14 +56,14 @@ pub(crate) fn constraints_of(
     vocab: Vocabulary,
 ) -> Result<Constraints, NoMemory>
     ensures begins { IfOk result (λ constraints. Begins constraints.vocab vocab) }
-    ensures kept { IfOk result (λ constraints. AreKept constraints.vocab constraints.list) }
+    ensures kept { IfOk result AreKept }
     ensures numbered { IfOk result (λ constraints. HasNumbers constraints.list) }
 {
     let list = listed(alloc, source)?;
     let Ok(doc) = read_doc(alloc, source, list.as_slice()) else {
         return Err(NoMemory);
     };
-    let Ok(constraints) = read_over(alloc, &doc, vocab) else {
+    let Ok(constraints) = read_constraints(alloc, &doc, vocab) else {
         return Err(NoMemory);
     };
     if constraints.list.as_slice().len() >= 4294967295 {

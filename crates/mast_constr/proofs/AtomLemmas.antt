@@ -9,6 +9,7 @@ use Rattle.mast_terms.specs.declared.memory.Stop.{Stop}
 use Rattle.mast_terms.specs.declared.memory.Stop.TheVariants.{Named, NoMemory}
 use Rattle.mast_terms.specs.declared.value.Value.{Value as AValue}
 use Rattle.mast_terms.specs.Vocabularies.{Lists}
+use Rattle.mast_tbox.specs.Lists.{AreEach}
 use Rattle.mast_tree.specs.declared.item.Item.{Item}
 use Rattle.mast_tree.specs.declared.shape.ShapeBreach.{ShapeBreach}
 use Rattle.mast_tree.specs.declared.shape.ShapeKind.TheVariants.{Shape}
@@ -17,11 +18,12 @@ use Rattle.mast_tree.specs.Judgements.{Judgement, breaks, first_breach, AreRight
 use Rattle.mast_tree.specs.Results.{Gives}
 use Rattle.mast_tree.specs.Said.{Said, node, line}
 use Rattle.mast_expressions.specs.Pages.{Page, says}
-use Rattle.mast_constr.specs.Denials.{Dates, class_atom, role_atom, attr_atom, atom_said, atom_judged, atoms_judged, deny_judged, with_arguments, with_atom, with_atoms, with_value, IsAtom, IsConstant, IsValue, AreDenied, constant_judged, inner_line, value_said, value_judged}
-use Rattle.mast_constr.specs.Lists.{AreEach}
+use Rattle.mast_constr.specs.Denials.{Dates, class_atom, role_atom, attr_atom, atom_said, atom_judged, deny_judged, with_value, IsAtom, IsConstant, IsValue, AreDenied, constant_judged, inner_line, value_said, value_judged, atoms_judged}
 use Rattle.mast_constr.specs.declared.variables.Sort.TheVariants.{Value}
 use Rattle.mast_constr.specs.Variables.{Variables, variable, placed, variable_judged, IsVariable}
+use Rattle.mast_constr.specs.inside.Atoms.{atoms_from, with_arguments, with_atom, with_atoms}
 use Rattle.mast_constr.specs.inside.Rules.{GivesAtom, GivesAtoms, GivesConstant}
+use Rattle.mast_constr.proofs.PlaceLemmas.{variables_are, judged_is}
 use Rattle.mast_constr.proofs.StepLemmas.{added_all}
 
 -- what is judged of a node of each word
@@ -66,11 +68,11 @@ atom_read dates page number known next item word wanted at items old new judgeme
 
 -- all atoms were read, from none on
 pub all_denied : (dates : Dates) (page : Page) (items : List Item) (known next : Variables) (old new : Lists) (start all : List Atom) → known ≡ [] → start ≡ []
-    → AreRight old (atoms_judged dates page 0 known items) new × GivesAtoms dates page items known next new start all
-    → AreRight old (atoms_judged dates page 0 [] items) new × AreDenied dates new page items all
+    → AreRight old (atoms_from dates page 0 known items) new × GivesAtoms dates page items known next new start all
+    → AreRight old (atoms_from dates page 0 [] items) new × AreDenied dates new page items all
 all_denied dates page items known next old new start all k s h = (
-  subst (λ v. AreRight old (atoms_judged dates page 0 v items) new) k h.0,
-  subst (λ v. AreEach (IsAtom dates new page v) items all) (h.1.0 ∙ ap (λ v. with_atoms page v items) k) (added_all start all (AreEach (IsAtom dates new page next) items) s h.1.1),
+  subst (λ v. AreRight old (atoms_from dates page 0 v items) new) k h.0,
+  subst (λ v. AreEach (IsAtom dates new page v) items all) (h.1.0 ∙ (ap (λ v. with_atoms page v items) k ∙ variables_are page items)) (added_all start all (AreEach (IsAtom dates new page next) items) s h.1.1),
 )
 
 -- what stops the reading of a constant
@@ -123,5 +125,5 @@ leaf_read dates page known next item what old result e leaf h = by result h
     by (Err NoMemory) h = tt
 
 -- what is judged of a denial with atoms
-pub some_denied : (dates : Dates) (page : Page) (at : ℕ) (items : List Item) (first : Item) (rest : List Item) → items ≡ first ∷ rest → deny_judged dates page at items ≡ atoms_judged dates page 0 [] items
-some_denied dates page at items first rest e = ap (deny_judged dates page at) e ∙ sym (ap (atoms_judged dates page 0 []) e)
+pub some_denied : (dates : Dates) (page : Page) (at : ℕ) (items : List Item) (first : Item) (rest : List Item) → items ≡ first ∷ rest → deny_judged dates page at items ≡ atoms_from dates page 0 [] items
+some_denied dates page at items first rest e = ap (deny_judged dates page at) e ∙ (sym (ap (atoms_judged dates page) e) ∙ sym (judged_is dates page items))

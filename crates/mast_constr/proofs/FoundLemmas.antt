@@ -22,6 +22,8 @@ use Rattle.mast_tbox.specs.declared.constraint.Step.TheVariants as step
 use Rattle.mast_tbox.specs.declared.expression.Basic.{Basic}
 use Rattle.mast_tbox.specs.declared.expression.Prop.{Prop}
 use Rattle.mast_tbox.specs.declared.expression.Prop.TheVariants as prop
+use Rattle.mast_tbox.specs.declared.constraint.TheConstants.{MOST_ATOMS}
+use Rattle.mast_tbox.specs.Lists.{AreEach}
 use Rattle.mast_tree.specs.declared.item.Item.{Item}
 use Rattle.mast_tree.specs.declared.shape.ShapeBreach.{ShapeBreach}
 use Rattle.mast_tree.specs.declared.shape.ShapeKind.TheVariants.{Shape, Atoms}
@@ -34,19 +36,18 @@ use Rattle.mast_tree.proofs.JudgementLemmas.{after-append}
 use Rattle.mast_expressions.specs.Given.{IsNamed, IsLeft}
 use Rattle.mast_expressions.specs.Judged.{named_judged, left_judged, role_judged}
 use Rattle.mast_expressions.specs.Pages.{Page, says}
-use Rattle.mast_expressions.proofs.FoundLemmas.{named_found, role_found, left_found}
+use Rattle.mast_expressions.proofs.FoundLemmas.{none_parts, named_found, role_found, left_found}
 use Rattle.mast_expressions.proofs.GivenLemmas.{named_grows, left_grows}
 use Rattle.mast_expressions.proofs.ReadLemmas.{is_node}
-use Rattle.mast_constr.specs.declared.paths.TheConstants.{MOST_ATOMS}
 use Rattle.mast_constr.specs.declared.variables.Sort.{Sort}
 use Rattle.mast_constr.specs.declared.variables.Sort.TheVariants.{Object, Value}
 use Rattle.mast_constr.specs.Denials as denial
+use Rattle.mast_constr.specs.inside.Atoms as within
 use Rattle.mast_constr.specs.Items as item_of
-use Rattle.mast_constr.specs.Lists.{AreEach}
 use Rattle.mast_constr.specs.Paths as paths_of
 use Rattle.mast_constr.specs.Variables.{Variables, variable, sort_of, joined, placed, sort_judged, variable_judged, IsVariable}
+use Rattle.mast_constr.proofs.PlaceLemmas.{variables_are, judged_is}
 use Rattle.mast_constr.proofs.GrowLemmas.{step_grows, path_grows, atom_grows, lined_grows}
-use Rattle.mast_constr.proofs.SizeLemmas.{none_parts}
 use Rattle.mast_constr.proofs.VariableLemmas.{begins_here, placed_begins, atoms_begin, variable_grows}
 
 -- what holds of the vocabulary after a part holds of that after more, if it is kept
@@ -335,7 +336,7 @@ attr_inside dates old page known i j k h =
 
 class_found : (dates : denial.Dates) (old : Lists) (page : Page) (number : ℕ) (known : Variables) (at : ℕ) (items : List Item)
     → first_breach old (denial.class_atom page number known at items) ≡ None
-    → (g : Atom) × Inside dates page (denial.with_arguments (codes "Class") page known items) (codes "Class") items (after old (denial.class_atom page number known at items)) g
+    → (g : Atom) × Inside dates page (within.with_arguments (codes "Class") page known items) (codes "Class") items (after old (denial.class_atom page number known at items)) g
 class_found dates old page number known at [] h = absurd (cc)
 class_found dates old page number known at (i ∷ []) h = absurd (cc)
 class_found dates old page number known at (i ∷ j ∷ []) h =
@@ -345,7 +346,7 @@ class_found dates old page number known at (i ∷ j ∷ k ∷ ks) h = absurd (cc
 
 roles_found : (dates : denial.Dates) (old : Lists) (page : Page) (number : ℕ) (known : Variables) (at : ℕ) (items : List Item)
     → first_breach old (denial.role_atom page number known at items) ≡ None
-    → (g : Atom) × Inside dates page (denial.with_arguments (codes "Role") page known items) (codes "Role") items (after old (denial.role_atom page number known at items)) g
+    → (g : Atom) × Inside dates page (within.with_arguments (codes "Role") page known items) (codes "Role") items (after old (denial.role_atom page number known at items)) g
 roles_found dates old page number known at [] h = absurd (cc)
 roles_found dates old page number known at (i ∷ []) h = absurd (cc)
 roles_found dates old page number known at (i ∷ j ∷ []) h = absurd (cc)
@@ -356,7 +357,7 @@ roles_found dates old page number known at (i ∷ j ∷ k ∷ l ∷ ls) h = absu
 
 fillers_found : (dates : denial.Dates) (old : Lists) (page : Page) (number : ℕ) (known : Variables) (at : ℕ) (items : List Item)
     → first_breach old (denial.attr_atom dates page number known at items) ≡ None
-    → (g : Atom) × Inside dates page (denial.with_arguments (codes "Attr") page known items) (codes "Attr") items (after old (denial.attr_atom dates page number known at items)) g
+    → (g : Atom) × Inside dates page (within.with_arguments (codes "Attr") page known items) (codes "Attr") items (after old (denial.attr_atom dates page number known at items)) g
 fillers_found dates old page number known at [] h = absurd (cc)
 fillers_found dates old page number known at (i ∷ []) h = absurd (cc)
 fillers_found dates old page number known at (i ∷ j ∷ []) h = absurd (cc)
@@ -368,8 +369,8 @@ fillers_found dates old page number known at (i ∷ j ∷ k ∷ l ∷ ls) h = ab
 -- what a node of a wanted word gives
 by_word : (dates : denial.Dates) (lists : Lists) (page : Page) (known : Variables) (item : Item) (word wanted : List ℕ) (at : ℕ) (items : List Item)
     → says page item ≡ node word at items → bytes_eq word wanted ≡ true
-    → (g : Atom) × Inside dates page (denial.with_arguments wanted page known items) wanted items lists g
-    → (g : Atom) × denial.IsAtom dates lists page (denial.with_arguments word page known items) item g
+    → (g : Atom) × Inside dates page (within.with_arguments wanted page known items) wanted items lists g
+    → (g : Atom) × denial.IsAtom dates lists page (within.with_arguments word page known items) item g
 by_word dates lists page known item word wanted at items e w found =
     let same : word ≡ wanted = (bytes_eq-Decides word wanted).0 w in
     let is = is_node page item word wanted at items e w in (
@@ -377,14 +378,14 @@ by_word dates lists page known item word wanted at items e w found =
       (
         items,
         (is.0, is.1 ∙ ap (λ v. node v is.0 items) (sym found.1.0)),
-        subst (λ v. denial.IsAtomOf dates lists page (denial.with_arguments v page known items) items found.0) (sym same) found.1.1,
+        subst (λ v. denial.IsAtomOf dates lists page (within.with_arguments v page known items) items found.0) (sym same) found.1.1,
       ),
     )
 
 attr_word : (dates : denial.Dates) (old : Lists) (page : Page) (number : ℕ) (known : Variables) (item : Item) (word : List ℕ) (at : ℕ) (items : List Item) (b : Bool)
     → says page item ≡ node word at items → bytes_eq word (codes "Attr") ≡ b
     → first_breach old (if b then denial.attr_atom dates page number known at items else breaks Shape at ∷ []) ≡ None
-    → (g : Atom) × denial.IsAtom dates (after old (if b then denial.attr_atom dates page number known at items else breaks Shape at ∷ [])) page (denial.with_arguments word page known items) item g
+    → (g : Atom) × denial.IsAtom dates (after old (if b then denial.attr_atom dates page number known at items else breaks Shape at ∷ [])) page (within.with_arguments word page known items) item g
 attr_word dates old page number known item word at items true e w h =
     by_word dates (after old (denial.attr_atom dates page number known at items)) page known item word (codes "Attr") at items e w (fillers_found dates old page number known at items h)
 attr_word dates old page number known item word at items false e w h = absurd (cc)
@@ -392,7 +393,7 @@ attr_word dates old page number known item word at items false e w h = absurd (c
 role_word : (dates : denial.Dates) (old : Lists) (page : Page) (number : ℕ) (known : Variables) (item : Item) (word : List ℕ) (at : ℕ) (items : List Item) (b : Bool)
     → says page item ≡ node word at items → bytes_eq word (codes "Role") ≡ b
     → first_breach old (if b then denial.role_atom page number known at items else if bytes_eq word (codes "Attr") then denial.attr_atom dates page number known at items else breaks Shape at ∷ []) ≡ None
-    → (g : Atom) × denial.IsAtom dates (after old (if b then denial.role_atom page number known at items else if bytes_eq word (codes "Attr") then denial.attr_atom dates page number known at items else breaks Shape at ∷ [])) page (denial.with_arguments word page known items) item g
+    → (g : Atom) × denial.IsAtom dates (after old (if b then denial.role_atom page number known at items else if bytes_eq word (codes "Attr") then denial.attr_atom dates page number known at items else breaks Shape at ∷ [])) page (within.with_arguments word page known items) item g
 role_word dates old page number known item word at items true e w h =
     by_word dates (after old (denial.role_atom page number known at items)) page known item word (codes "Role") at items e w (roles_found dates old page number known at items h)
 role_word dates old page number known item word at items false e w h = attr_word dates old page number known item word at items (bytes_eq word (codes "Attr")) e refl h
@@ -400,14 +401,14 @@ role_word dates old page number known item word at items false e w h = attr_word
 class_word : (dates : denial.Dates) (old : Lists) (page : Page) (number : ℕ) (known : Variables) (item : Item) (word : List ℕ) (at : ℕ) (items : List Item) (b : Bool)
     → says page item ≡ node word at items → bytes_eq word (codes "Class") ≡ b
     → first_breach old (if b then denial.class_atom page number known at items else if bytes_eq word (codes "Role") then denial.role_atom page number known at items else if bytes_eq word (codes "Attr") then denial.attr_atom dates page number known at items else breaks Shape at ∷ []) ≡ None
-    → (g : Atom) × denial.IsAtom dates (after old (if b then denial.class_atom page number known at items else if bytes_eq word (codes "Role") then denial.role_atom page number known at items else if bytes_eq word (codes "Attr") then denial.attr_atom dates page number known at items else breaks Shape at ∷ [])) page (denial.with_arguments word page known items) item g
+    → (g : Atom) × denial.IsAtom dates (after old (if b then denial.class_atom page number known at items else if bytes_eq word (codes "Role") then denial.role_atom page number known at items else if bytes_eq word (codes "Attr") then denial.attr_atom dates page number known at items else breaks Shape at ∷ [])) page (within.with_arguments word page known items) item g
 class_word dates old page number known item word at items true e w h =
     by_word dates (after old (denial.class_atom page number known at items)) page known item word (codes "Class") at items e w (class_found dates old page number known at items h)
 class_word dates old page number known item word at items false e w h = role_word dates old page number known item word at items (bytes_eq word (codes "Role")) e refl h
 
 atom_found : (dates : denial.Dates) (old : Lists) (page : Page) (number : ℕ) (known : Variables) (item : Item) (what : Said) → says page item ≡ what
     → first_breach old (denial.atom_said dates page number known what) ≡ None
-    → (g : Atom) × denial.IsAtom dates (after old (denial.atom_said dates page number known what)) page (denial.with_atom page known what) item g
+    → (g : Atom) × denial.IsAtom dates (after old (denial.atom_said dates page number known what)) page (within.with_atom page known what) item g
 atom_found dates old page number known item (name word at) e h = absurd (cc)
 atom_found dates old page number known item (iri word at) e h = absurd (cc)
 atom_found dates old page number known item (text chars at) e h = absurd (cc)
@@ -416,14 +417,14 @@ atom_found dates old page number known item (binding at) e h = absurd (cc)
 atom_found dates old page number known item (node word at items) e h = class_word dates old page number known item word at items (bytes_eq word (codes "Class")) e refl h
 
 atoms_found : (dates : denial.Dates) (old : Lists) (page : Page) (number : ℕ) (known : Variables) (items : List Item)
-    → first_breach old (denial.atoms_judged dates page number known items) ≡ None
-    → (gs : List Atom) × AreEach (denial.IsAtom dates (after old (denial.atoms_judged dates page number known items)) page (denial.with_atoms page known items)) items gs
+    → first_breach old (within.atoms_from dates page number known items) ≡ None
+    → (gs : List Atom) × AreEach (denial.IsAtom dates (after old (within.atoms_from dates page number known items)) page (within.with_atoms page known items)) items gs
 atoms_found dates old page number known [] h = ([], tt)
 atoms_found dates old page number known (i ∷ is) h =
     let first = denial.atom_judged dates page number known i in
-    let next = denial.with_atom page known (says page i) in
-    let second = denial.atoms_judged dates page (suc number) next is in
-    let all = denial.with_atoms page next is in
+    let next = within.with_atom page known (says page i) in
+    let second = within.atoms_from dates page (suc number) next is in
+    let all = within.with_atoms page next is in
     let parts = none_parts old first second h in
     let g = atom_found dates old page number known i (says page i) refl parts.0 in
     let rest = atoms_found dates (after old first) page (suc number) next is parts.1 in (
@@ -438,7 +439,13 @@ atoms_found dates old page number known (i ∷ is) h =
 deny_found : (dates : denial.Dates) (old : Lists) (page : Page) (at : ℕ) (items : List Item) → first_breach old (denial.deny_judged dates page at items) ≡ None
     → (gs : List Atom) × denial.AreDenied dates (after old (denial.deny_judged dates page at items)) page items gs
 deny_found dates old page at [] h = absurd (cc)
-deny_found dates old page at (i ∷ is) h = atoms_found dates old page 0 [] (i ∷ is) h
+deny_found dates old page at (i ∷ is) h =
+    let same = judged_is dates page (i ∷ is) in
+    let found = atoms_found dates old page 0 [] (i ∷ is) (ap (first_breach old) same ∙ h) in (
+      found.0,
+      subst (λ js. AreEach (denial.IsAtom dates (after old js) page (denial.variables_of page (i ∷ is))) (i ∷ is) found.0) same
+          (subst (λ known. AreEach (denial.IsAtom dates (after old (within.atoms_from dates page 0 [] (i ∷ is))) page known) (i ∷ is) found.0) (variables_are page (i ∷ is)) found.1),
+    )
 
 role_prop : (old : Lists) (page : Page) (item : Item) → first_breach old (role_judged Shape page item) ≡ None
     → (p : Prop) × item_of.IsProp (after old (role_judged Shape page item)) page item p

@@ -16,18 +16,18 @@ use Rattle.mast_tbox.specs.declared.constraint.Step.TheVariants as step
 use Rattle.mast_tbox.specs.declared.expression.Basic.{Basic}
 use Rattle.mast_tbox.specs.declared.expression.Prop.{Prop}
 use Rattle.mast_tbox.specs.declared.expression.Prop.TheVariants as prop
+use Rattle.mast_tbox.specs.Lists.{AreEach}
+use Rattle.mast_tbox.proofs.EachLemmas.{each_more}
 use Rattle.mast_tree.specs.declared.item.Item.{Item}
 use Rattle.mast_tree.specs.Growing.{BeginsWith, Begins}
 use Rattle.mast_tree.proofs.GrowingLemmas.{get_grows}
 use Rattle.mast_expressions.specs.Pages.{Page, says}
 use Rattle.mast_expressions.proofs.GivenLemmas.{named_grows, role_grows, left_grows}
 use Rattle.mast_constr.specs.declared.variables.Sort.TheVariants.{Object, Value}
-use Rattle.mast_constr.specs.Denials.{Dates, IsConstant, IsValue, IsClassOf, IsRoleOf, IsAttrAtomOf, IsAtomOf, IsAtom, with_atoms}
+use Rattle.mast_constr.specs.Denials.{Dates, IsConstant, IsValue, IsClassOf, IsRoleOf, IsAttrAtomOf, IsAtomOf, IsAtom, variables_of}
 use Rattle.mast_constr.specs.Items.{IsProp, IsFunctionalOf, IsConstraintOf, IsConstraint, IsLined}
-use Rattle.mast_constr.specs.Lists.{AreEach}
 use Rattle.mast_constr.specs.Paths.{IsTestOf, IsAttrOf, IsStep, IsPath, AreIdentified}
 use Rattle.mast_constr.specs.Variables.{Variables, variable}
-use Rattle.mast_constr.proofs.EachLemmas.{each_more}
 use Rattle.mast_constr.proofs.VariableLemmas.{begins_here, variable_grows}
 
 test_grows : (new old : Lists) (page : Page) (items : List Item) (a : Name) → Begins new old → IsTestOf old page items a → IsTestOf new page items a
@@ -122,7 +122,7 @@ within_grows : (dates : Dates) (new old : Lists) (page : Page) (items : List Ite
     → Begins new old → IsConstraintOf dates old page items c → IsConstraintOf dates new page items c
 within_grows dates new old page items (constraint.Functional p) b h = functional_grows new old page items p b h
 within_grows dates new old page items (constraint.Identify concept paths) b h = identified_grows new old page b items concept paths h
-within_grows dates new old page items (constraint.Deny atoms) b h = denied_grows dates new old page (with_atoms page [] items) items atoms b h
+within_grows dates new old page items (constraint.Deny atoms) b h = denied_grows dates new old page (variables_of page items) items atoms b h
 
 -- a constraint
 pub constraint_grows : (dates : Dates) (new old : Lists) (page : Page) (item : Item) (c : Constraint)

@@ -1,5 +1,5 @@
-pub mod EachLemmas
 pub mod VariableLemmas
+pub mod PlaceLemmas
 pub mod GrowLemmas
 pub mod SortLemmas
 pub mod KnownLemmas

@@ -1,5 +1,5 @@
 -- Each variable of a denial has one number.
-use Rattle.std.proofs.Common.{◌≡◌, ◌⊎◌, inl, inr, refl, sym, ap, ◌∙◌, ℕ, zero, suc, Bool, true, false, true≢false, if◌then◌else◌, List, [], ◌∷◌, ◌++◌, length, Option, Some, None}
+use Rattle.std.proofs.Common.{◌≡◌, ◌⊎◌, inl, inr, refl, sym, ap, ◌∙◌, subst, ℕ, zero, suc, Bool, true, false, true≢false, if◌then◌else◌, List, [], ◌∷◌, ◌++◌, length, Option, Some, None}
 use Rattle.std.specs.Prelude.{slice_get, codes}
 use Rattle.std.specs.Str.{bytes_eq}
 use Rattle.std.proofs.lemmas.Slice.Eq.{bytes_eq-Decides}
@@ -8,8 +8,10 @@ use Rattle.mast_tree.specs.Said.{Said, name, iri, text, tagged, binding, node}
 use Rattle.mast_expressions.specs.Pages.{Page, says}
 use Rattle.mast_constr.specs.declared.variables.Sort.{Sort}
 use Rattle.mast_constr.specs.declared.variables.Sort.TheVariants.{Object, Value}
-use Rattle.mast_constr.specs.Denials.{with_arguments, with_atom, with_atoms}
+use Rattle.mast_constr.specs.Denials.{variables_of}
 use Rattle.mast_constr.specs.Variables.{Variables, variable, sort_of, joined, placed}
+use Rattle.mast_constr.specs.inside.Atoms.{with_arguments, with_atom, with_atoms}
+use Rattle.mast_constr.proofs.PlaceLemmas.{variables_are}
 
 -- two places of one variable are one
 abbrev pub IsOnce : Variables → Type 0
@@ -85,8 +87,8 @@ atoms_once page known [] once = once
 atoms_once page known (item ∷ items) once = atoms_once page (with_atom page known (says page item)) items (atom_once page known (says page item) once)
 
 -- the variables of a denial stand once
-pub denial_once : (page : Page) (items : List Item) → IsOnce (with_atoms page [] items)
-denial_once page items = atoms_once page [] items nothing
+pub denial_once : (page : Page) (items : List Item) → IsOnce (variables_of page items)
+denial_once page items = subst IsOnce (variables_are page items) (atoms_once page [] items nothing)
   where
     nothing : IsOnce []
     nothing x s t n m h g = absurd (cc)

@@ -21,6 +21,7 @@ use Rattle.mast_tbox.specs.declared.expression.Prop.{Prop}
 use Rattle.mast_tbox.specs.declared.expression.Prop.TheVariants as prop
 use Rattle.mast_tbox.specs.declared.expression.RoleExpr.{RoleExpr}
 use Rattle.mast_tbox.specs.declared.expression.RoleExpr.TheVariants.{Direct, Inverse}
+use Rattle.mast_tbox.specs.Lists.{AreEach}
 use Rattle.mast_tree.specs.declared.item.Item.{Item}
 use Rattle.mast_tree.specs.declared.shape.ShapeBreach.{ShapeBreach}
 use Rattle.mast_tree.specs.Constants.{constant_of}
@@ -31,9 +32,8 @@ use Rattle.mast_expressions.specs.Pages.{Page, says, IsNodeOf}
 use Rattle.mast_expressions.proofs.OneLemmas.{named_one, role_one, left_one, node_no_name, inside_one, word_one}
 use Rattle.mast_constr.specs.declared.variables.Sort.{Sort}
 use Rattle.mast_constr.specs.declared.variables.Sort.TheVariants.{Object, Value}
-use Rattle.mast_constr.specs.Denials.{Dates, IsConstant, IsValue, IsClassOf, IsRoleOf, IsAttrAtomOf, IsAtomOf, IsAtom, atom_word, with_atoms}
+use Rattle.mast_constr.specs.Denials.{Dates, IsConstant, IsValue, IsClassOf, IsRoleOf, IsAttrAtomOf, IsAtomOf, IsAtom, atom_word, variables_of}
 use Rattle.mast_constr.specs.Items.{IsProp, IsFunctionalOf, IsConstraintOf, IsConstraint, IsLined, AreConstraints, constraint_word}
-use Rattle.mast_constr.specs.Lists.{AreEach}
 use Rattle.mast_constr.specs.Paths.{IsTestOf, IsAttrOf, IsStep, IsPath, AreIdentified}
 use Rattle.mast_constr.specs.Variables.{Variables, variable, IsVariable}
 use Rattle.mast_constr.proofs.OnceLemmas.{IsOnce, denial_once}
@@ -244,7 +244,7 @@ inside_constraint dates lists page items (constraint.Identify b ps) (constraint.
 inside_constraint dates lists page items (constraint.Deny fs) (constraint.Functional q) w v h g = absurd (functional_no_deny (sym w))
 inside_constraint dates lists page items (constraint.Deny fs) (constraint.Identify c qs) w v h g = absurd (identify_no_deny (sym w))
 inside_constraint dates lists page items (constraint.Deny fs) (constraint.Deny gs) w v h g =
-    ap constraint.Deny (each_one (IsAtom dates lists page (with_atoms page [] items)) (atom_one dates lists page (with_atoms page [] items) v (denial_once page items)) items fs gs h g)
+    ap constraint.Deny (each_one (IsAtom dates lists page (variables_of page items)) (atom_one dates lists page (variables_of page items) v (denial_once page items)) items fs gs h g)
 
 constraint_one : (dates : Dates) (lists : Lists) (page : Page) (item : Item) (c d : Constraint) → IsVocabulary lists
     → IsConstraint dates lists page item c → IsConstraint dates lists page item d → c ≡ d

@@ -1,6 +1,7 @@
 -- What is read without a breach keeps the sizes: the steps of identifications and their order, and the atoms of denials.
 use Rattle.std.proofs.Common.{arith, ◌≡◌, ◌⊎◌, inl, inr, refl, sym, ap, ◌∙◌, ℕ, suc, ◌+◌, ◌≤◌, Bool, true, false, nat_lt, if◌then◌else◌, ◌||◌, List, [], ◌∷◌, ◌++◌, length}
-use Rattle.std.specs.Prelude.{Option, Some, None, codes}
+use Rattle.std.specs.Prelude.{None, codes}
+use Rattle.std.specs.List.{AllByRecursion}
 use Rattle.mast_cq.specs.declared.atom.Arg.{Arg}
 use Rattle.mast_cq.specs.declared.atom.Atom.{Atom}
 use Rattle.mast_cq.specs.declared.atom.Atom.TheVariants as atom
@@ -8,31 +9,23 @@ use Rattle.mast_terms.specs.declared.name.Name.{Name}
 use Rattle.mast_terms.specs.Vocabularies.{Lists}
 use Rattle.mast_tbox.specs.declared.constraint.Step.{Step}
 use Rattle.mast_tbox.specs.declared.constraint.Step.TheVariants as step
+use Rattle.mast_tbox.specs.declared.constraint.TheConstants.{MOST_ATOMS}
+use Rattle.mast_tbox.specs.Lists.{AreEach}
 use Rattle.mast_tbox.specs.Restrictions.{along}
+use Rattle.mast_tbox.specs.ConstraintForms.{steps_together, most_steps, IsAttributeLast, HasPathForm}
+use Rattle.mast_tbox.proofs.EachLemmas.{each_length}
 use Rattle.mast_tree.specs.declared.item.Item.{Item}
-use Rattle.mast_tree.specs.declared.shape.ShapeBreach.{ShapeBreach}
 use Rattle.mast_tree.specs.declared.shape.ShapeKind.{ShapeKind}
 use Rattle.mast_tree.specs.declared.shape.ShapeKind.TheVariants.{Shape}
-use Rattle.mast_tree.specs.Judgements.{Judgement, breaks, after, first_breach, or_later}
+use Rattle.mast_tree.specs.Judgements.{Judgement, breaks, after, first_breach}
 use Rattle.mast_tree.specs.Said.{node}
-use Rattle.mast_tree.proofs.JudgementLemmas.{first_breach-append}
 use Rattle.mast_expressions.specs.Judged.{left_judged}
 use Rattle.mast_expressions.specs.Pages.{Page, says}
-use Rattle.mast_constr.specs.declared.paths.TheConstants.{MOST_ATOMS}
-use Rattle.mast_constr.specs.Denials.{Dates, IsClassOf, IsRoleOf, IsAttrAtomOf, IsAtom, class_atom, role_atom, attr_atom, atom_said, atom_judged, atoms_judged, with_atom}
-use Rattle.mast_constr.specs.Kept.{Each, steps_together, most_steps, IsAttrLast, IsPathKept}
-use Rattle.mast_constr.specs.Lists.{AreEach}
+use Rattle.mast_expressions.proofs.FoundLemmas.{none_parts}
+use Rattle.mast_constr.specs.Denials.{Dates, IsClassOf, IsRoleOf, IsAttrAtomOf, IsAtom, class_atom, role_atom, attr_atom, atom_said, atom_judged}
 use Rattle.mast_constr.specs.Paths.{leads, some_leads, step_said, step_judged, steps_judged, path_said, path_judged, paths_judged, path_length, all_steps, are_many, identified_judged, IsStep, IsPath}
 use Rattle.mast_constr.specs.Variables.{Variables}
-use Rattle.mast_constr.proofs.EachLemmas.{each_length}
-
-or_none : (x y : Option ShapeBreach) → or_later x y ≡ None → (x ≡ None) × (y ≡ None)
-or_none None y h = (refl, h)
-or_none (Some b) y h = absurd (cc)
-
--- nothing is wrong with the first part, and then with the second
-pub none_parts : (old : Lists) (a b : List Judgement) → first_breach old (a ++ b) ≡ None → (first_breach old a ≡ None) × (first_breach (after old a) b ≡ None)
-none_parts old a b h = or_none (first_breach old a) (first_breach (after old a) b) (sym (first_breach-append old a b) ∙ h)
+use Rattle.mast_constr.specs.inside.Atoms.{atoms_from, with_atom}
 
 -- something is wrong with a breach
 pub broken : (old : Lists) (kind : ShapeKind) (at : ℕ) → first_breach old (breaks kind at ∷ []) ≡ None → ⊥
@@ -103,11 +96,13 @@ not_last : (old : Lists) (page : Page) (item : Item) (at : ℕ) (inside : List I
 not_last old page item at inside e h = broken old Shape at (sym (ap (λ what. first_breach old (step_said false page item what)) e) ∙ h)
 
 attr_last : (old : Lists) (lists : Lists) (page : Page) (items : List Item) (steps : List Step)
-    → first_breach old (steps_judged page items) ≡ None → AreEach (IsStep lists page) items steps → IsAttrLast steps
+    → first_breach old (steps_judged page items) ≡ None → AreEach (IsStep lists page) items steps → IsAttributeLast steps
 attr_last old lists page [] [] none h = tt
 attr_last old lists page [] (s ∷ steps) none h = absurd h
 attr_last old lists page (i ∷ is) [] none h = absurd h
-attr_last old lists page (i ∷ []) (s ∷ []) none h = tt
+attr_last old lists page (i ∷ []) (step.Role r ∷ []) none h = tt
+attr_last old lists page (i ∷ []) (step.Test a ∷ []) none h = tt
+attr_last old lists page (i ∷ []) (step.Attr u ∷ []) none h = tt
 attr_last old lists page (i ∷ []) (s ∷ t ∷ steps) none h = absurd h.1
 attr_last old lists page (i ∷ j ∷ is) (s ∷ []) none h = absurd h.1
 attr_last old lists page (i ∷ j ∷ is) (step.Role r ∷ t ∷ steps) none h =
@@ -117,16 +112,21 @@ attr_last old lists page (i ∷ j ∷ is) (step.Test a ∷ t ∷ steps) none h =
 attr_last old lists page (i ∷ j ∷ is) (step.Attr u ∷ t ∷ steps) none h =
     not_last old page i h.0.1.0 h.0.0 h.0.1.1 (none_parts old (step_judged false page i) (steps_judged page (j ∷ is)) none).0
 
+-- a list that is not empty has an element
+has_some : {X : Type 0} (xs : List X) → (xs ≡ [] → ⊥) → 1 ≤ length xs
+has_some [] h = absurd (h refl)
+has_some (x ∷ xs) h = omega arith
+
 path_kept : (old : Lists) (lists : Lists) (page : Page) (item : Item) (path : List Step)
-    → first_breach old (path_judged page item) ≡ None → IsPath lists page item path → IsPathKept path
+    → first_breach old (path_judged page item) ≡ None → IsPath lists page item path → HasPathForm path
 path_kept old lists page item path none h =
     let inside = sym (ap (λ what. first_breach old (path_said page what)) h.1.1) ∙ none in
     let led = not_broken old (some_leads page h.0) (steps_judged page h.0) Shape h.1.0 inside in
-    (some_along lists page h.0 path h.2 led.0, attr_last old lists page h.0 path led.1 h.2)
+    record { long = has_some (along path) (some_along lists page h.0 path h.2 led.0); last = attr_last old lists page h.0 path led.1 h.2 }
 
 -- paths lead somewhere, and have attributes only at their ends
 pub paths_kept : (old : Lists) (lists : Lists) (page : Page) (items : List Item) (paths : List (List Step))
-    → first_breach old (paths_judged page items) ≡ None → AreEach (IsPath lists page) items paths → Each IsPathKept paths
+    → first_breach old (paths_judged page items) ≡ None → AreEach (IsPath lists page) items paths → AllByRecursion HasPathForm paths
 paths_kept old lists page [] [] none h = tt
 paths_kept old lists page [] (p ∷ ps) none h = absurd h
 paths_kept old lists page (i ∷ is) [] none h = absurd h
@@ -174,12 +174,12 @@ within number h = grind (arith, h)
 
 -- atoms are few
 pub few_atoms : (dates : Dates) (old : Lists) (lists : Lists) (page : Page) (number : ℕ) (before known : Variables) (items : List Item) (atoms : List Atom)
-    → number ≤ MOST_ATOMS → AreEach (IsAtom dates lists page known) items atoms → first_breach old (atoms_judged dates page number before items) ≡ None
+    → number ≤ MOST_ATOMS → AreEach (IsAtom dates lists page known) items atoms → first_breach old (atoms_from dates page number before items) ≡ None
     → number + length atoms ≤ MOST_ATOMS
 few_atoms dates old lists page number before known [] [] few h none = grind (arith, few)
 few_atoms dates old lists page number before known [] (g ∷ gs) few h none = absurd h
 few_atoms dates old lists page number before known (i ∷ is) [] few h none = absurd h
 few_atoms dates old lists page number before known (i ∷ is) (g ∷ gs) few h none =
-    let parts = none_parts old (atom_judged dates page number before i) (atoms_judged dates page (suc number) (with_atom page before (says page i)) is) none in
+    let parts = none_parts old (atom_judged dates page number before i) (atoms_from dates page (suc number) (with_atom page before (says page i)) is) none in
     let less = within number (few_atom dates old lists page number before known i g h.0 parts.0) in
     one_more number (length gs) (few_atoms dates (after old (atom_judged dates page number before i)) lists page (suc number) (with_atom page before (says page i)) known is gs less h.1 parts.1)

@@ -10,12 +10,12 @@ use Rattle.mast_cq.specs.Sorts.{objects_of, values_of, of_all, Clashes, EachHasO
 use Rattle.mast_terms.specs.declared.name.Name.{Name}
 use Rattle.mast_terms.specs.declared.value.Value.{Value as AValue}
 use Rattle.mast_terms.specs.Vocabularies.{Lists}
+use Rattle.mast_tbox.specs.Lists.{AreEach}
 use Rattle.mast_tree.specs.declared.item.Item.{Item}
 use Rattle.mast_expressions.specs.Pages.{Page, says}
 use Rattle.mast_constr.specs.declared.variables.Sort.{Sort}
 use Rattle.mast_constr.specs.declared.variables.Sort.TheVariants.{Object, Value}
 use Rattle.mast_constr.specs.Denials.{Dates, IsConstant, IsValue, IsClassOf, IsRoleOf, IsAttrAtomOf, IsAtomOf, IsAtom}
-use Rattle.mast_constr.specs.Lists.{AreEach}
 use Rattle.mast_constr.specs.Variables.{Variables, variable, IsVariable}
 
 -- the variable of a number has this sort

@@ -6,6 +6,7 @@ use Rattle.mast_cq.specs.declared.atom.Atom.{Atom}
 use Rattle.mast_terms.specs.declared.memory.Stop.{Stop}
 use Rattle.mast_terms.specs.declared.memory.Stop.TheVariants.{Named, NoMemory}
 use Rattle.mast_terms.specs.Vocabularies.{Lists}
+use Rattle.mast_tbox.specs.Lists.{AreEach}
 use Rattle.mast_tree.specs.declared.item.Item.{Item}
 use Rattle.mast_tree.specs.declared.shape.ShapeBreach.{ShapeBreach}
 use Rattle.mast_tree.specs.Growing.{BeginsWith, Begins}
@@ -15,9 +16,9 @@ use Rattle.mast_tree.proofs.JudgementLemmas.{right_parts, breach_second}
 use Rattle.mast_expressions.specs.Pages.{Page, says}
 use Rattle.mast_expressions.proofs.ReadLemmas.{handed, stops, stops_first, stops_second}
 use Rattle.mast_constr.specs.declared.variables.Sort.TheVariants.{Object, Value}
-use Rattle.mast_constr.specs.Denials.{Dates, object_judged, pair_judged, value_judged, filler_judged, with_object, with_value, with_atom, with_atoms, atom_judged, atoms_judged, IsObject, IsValue, IsAtom}
-use Rattle.mast_constr.specs.Lists.{AreEach}
+use Rattle.mast_constr.specs.Denials.{Dates, object_judged, pair_judged, value_judged, filler_judged, with_object, with_value, atom_judged, IsObject, IsValue, IsAtom}
 use Rattle.mast_constr.specs.Variables.{Variables, variable}
+use Rattle.mast_constr.specs.inside.Atoms.{with_atom, with_atoms, atoms_from}
 use Rattle.mast_constr.specs.inside.Rules.{Adds, Puts, GivesAtoms}
 use Rattle.mast_constr.proofs.GrowLemmas.{atom_grows}
 use Rattle.mast_constr.proofs.VariableLemmas.{placed_begins, atoms_begin, variable_grows}
@@ -90,16 +91,16 @@ filler_read dates page known mid last from value x y old new a b =
 pub atom_and_rest : (dates : Dates) (page : Page) (number : ℕ) (known mid last : Variables) (item : Item) (items : List Item) (old between new : Lists) (some middle all : List Atom)
     (result : Result (Unit {0}) (Stop ShapeBreach))
     → AreRight old (atom_judged dates page number known item) between × ((mid ≡ with_atom page known (says page item)) × Puts some middle (IsAtom dates between page mid item))
-    → Judges between (atoms_judged dates page (suc number) mid items) new (λ u. GivesAtoms dates page items mid last new middle all) result
-    → Judges old (atoms_judged dates page number known (item ∷ items)) new (λ u. GivesAtoms dates page (item ∷ items) known last new some all) result
+    → Judges between (atoms_from dates page (suc number) mid items) new (λ u. GivesAtoms dates page items mid last new middle all) result
+    → Judges old (atoms_from dates page number known (item ∷ items)) new (λ u. GivesAtoms dates page (item ∷ items) known last new some all) result
 atom_and_rest dates page number known mid last item items old between new some middle all (Err NoMemory) a h = tt
 atom_and_rest dates page number known mid last item items old between new some middle all (Err (Named breach)) a h =
-    breach_second old between (atom_judged dates page number known item) (atoms_judged dates page (suc number) (with_atom page known (says page item)) items) breach a.0
-    (subst (λ k. first_breach between (atoms_judged dates page (suc number) k items) ≡ Some breach) a.1.0 h)
+    breach_second old between (atom_judged dates page number known item) (atoms_from dates page (suc number) (with_atom page known (says page item)) items) breach a.0
+    (subst (λ k. first_breach between (atoms_from dates page (suc number) k items) ≡ Some breach) a.1.0 h)
 atom_and_rest dates page number known mid last item items old between new some middle all (Ok u) a h =
     let next = with_atom page known (says page item) in
-    let rest = atoms_judged dates page (suc number) next items in
-    let right = subst (λ k. AreRight between (atoms_judged dates page (suc number) k items) new) a.1.0 h.0 in
+    let rest = atoms_from dates page (suc number) next items in
+    let right = subst (λ k. AreRight between (atoms_from dates page (suc number) k items) new) a.1.0 h.0 in
     let after = subst (λ k. last ≡ with_atoms page k items) a.1.0 h.1.0 in
     let begins = subst (λ k. BeginsWith k next) (sym after) (atoms_begin page next items) in
     let first = atom_grows dates new between page last next item a.1.1.0 (right_begins between new rest right) begins (subst (λ k. IsAtom dates between page k item a.1.1.0) a.1.0 a.1.1.2) in (

@@ -1,5 +1,6 @@
 -- Denials: what is judged of their atoms, and what these give.
-use Rattle.std.specs.Prelude.{◌≡◌, ◌⊎◌, ℕ, suc, nat_lt, if◌then◌else◌, List, [], ◌∷◌, ◌++◌, Option, Some, Result, Ok, Err, codes, slice_get}
+use Rattle.std.specs.Prelude.{◌≡◌, ◌⊎◌, ℕ, nat_lt, if◌then◌else◌, List, [], ◌∷◌, ◌++◌, length, Option, Some, Result, Ok, Err, codes, slice_get}
+use Rattle.std.specs.List.{flat_map}
 use Rattle.std.specs.Str.{bytes_eq}
 use Rattle.mast_cq.specs.declared.atom.Arg.{Arg}
 use Rattle.mast_cq.specs.declared.atom.Arg.TheVariants as arg
@@ -10,6 +11,8 @@ use Rattle.mast_terms.specs.declared.name.Name.{Name}
 use Rattle.mast_terms.specs.declared.name.NameKind.TheVariants as kinds
 use Rattle.mast_terms.specs.declared.value.Value.{Value as AValue}
 use Rattle.mast_terms.specs.Vocabularies.{Lists}
+use Rattle.mast_tbox.specs.declared.constraint.TheConstants.{MOST_ATOMS}
+use Rattle.mast_tbox.specs.Lists.{AreEach, once}
 use Rattle.mast_tree.specs.declared.item.Item.{Item}
 use Rattle.mast_tree.specs.declared.shape.ShapeBreach.{ShapeBreach}
 use Rattle.mast_tree.specs.declared.shape.ShapeKind.TheVariants.{Shape, Atoms}
@@ -19,10 +22,8 @@ use Rattle.mast_tree.specs.Said.{Said, node, line}
 use Rattle.mast_expressions.specs.Given.{IsNamed, IsClassIn, IsAttr}
 use Rattle.mast_expressions.specs.Judged.{named_judged, class_judged, attr_judged}
 use Rattle.mast_expressions.specs.Pages.{Page, says, IsNodeOf}
-use Rattle.mast_constr.specs.declared.paths.TheConstants.{MOST_ATOMS}
 use Rattle.mast_constr.specs.declared.variables.Sort.TheVariants.{Object, Value}
-use Rattle.mast_constr.specs.Lists.{AreEach}
-use Rattle.mast_constr.specs.Variables.{Variables, variable, placed, variable_judged, IsVariable}
+use Rattle.mast_constr.specs.Variables.{Variables, variable, place, same_name, placed, variable_judged, IsVariable}
 
 -- the dates of texts
 abbrev pub Dates : Type 0
@@ -111,34 +112,43 @@ atom_said dates page number known other = breaks Shape (line other) ∷ []
 abbrev pub atom_judged : Dates → Page → ℕ → Variables → Item → List Judgement
 atom_judged dates page number known item = atom_said dates page number known (says page item)
 
--- the variables once the arguments of an atom stood: its first item is an IRI
-abbrev pub with_arguments : List ℕ → Page → Variables → List Item → Variables
-with_arguments word page known (class ∷ object ∷ []) = with_object page known object
-with_arguments word page known (property ∷ from ∷ to ∷ []) =
-    if bytes_eq word (codes "Attr") then with_value page (with_object page known from) to
-    else with_object page (with_object page known from) to
-with_arguments word page known _ = known
+-- the places of variables in an atom, in order: its first item is an IRI
+abbrev pub places_inside : List ℕ → Page → List Item → Variables
+places_inside word page (class ∷ object ∷ []) = place Object (variable (says page object))
+places_inside word page (property ∷ from ∷ to ∷ []) =
+    place Object (variable (says page from)) ++ place (if bytes_eq word (codes "Attr") then Value else Object) (variable (says page to))
+places_inside word page _ = []
 
--- the variables once the item of an atom stood
-abbrev pub with_atom : Page → Variables → Said → Variables
-with_atom page known (node word at items) = with_arguments word page known items
-with_atom page known other = known
+-- those of an atom, by what its item says
+abbrev pub places_said : Page → Said → Variables
+places_said page (node word at items) = places_inside word page items
+places_said page other = []
 
--- the variables of atoms, behind those that stand before
-abbrev pub with_atoms : Page → Variables → List Item → Variables
-with_atoms page known [] = known
-with_atoms page known (item ∷ items) = with_atoms page (with_atom page known (says page item)) items
+-- those of atoms
+abbrev pub places : Page → List Item → Variables
+places page items = flat_map (λ item. places_said page (says page item)) items
 
--- atoms, in order, from a number on
-abbrev pub atoms_judged : Dates → Page → ℕ → Variables → List Item → List Judgement
-atoms_judged dates page number known [] = []
-atoms_judged dates page number known (item ∷ items) =
-    atom_judged dates page number known item ++ atoms_judged dates page (suc number) (with_atom page known (says page item)) items
+-- the variables of atoms: each once, where it first stands
+abbrev pub variables_of : Page → List Item → Variables
+variables_of page items = once same_name (places page items)
+
+-- what each element gives, behind those before it
+abbrev pub each_behind : {X Y : Type 0} → (List X → X → List Y) → List X → List X → List Y
+each_behind f before [] = []
+each_behind f before (x ∷ xs) = f before x ++ each_behind f (before ++ x ∷ []) xs
+
+-- an atom behind others: its number is theirs, and variables stand before it that they have
+abbrev pub atom_behind : Dates → Page → List Item → Item → List Judgement
+atom_behind dates page before item = atom_judged dates page (length before) (variables_of page before) item
+
+-- atoms, in order
+abbrev pub atoms_judged : Dates → Page → List Item → List Judgement
+atoms_judged dates page items = each_behind (atom_behind dates page) [] items
 
 -- what stands in `Deny(..)` at a line: one or more atoms
 abbrev pub deny_judged : Dates → Page → ℕ → List Item → List Judgement
 deny_judged dates page at [] = breaks Shape at ∷ []
-deny_judged dates page at (item ∷ items) = atoms_judged dates page 0 [] (item ∷ items)
+deny_judged dates page at (item ∷ items) = atoms_judged dates page (item ∷ items)
 
 -- the variable that the item is, in the place of an object
 abbrev pub IsObject : Page → Variables → Item → Arg → Type 0
@@ -192,4 +202,4 @@ IsAtom dates lists page known item g =
 
 -- the atoms that stand in `Deny(..)`
 abbrev pub AreDenied : Dates → Lists → Page → List Item → List Atom → Type 0
-AreDenied dates lists page items atoms = AreEach (IsAtom dates lists page (with_atoms page [] items)) items atoms
+AreDenied dates lists page items atoms = AreEach (IsAtom dates lists page (variables_of page items)) items atoms

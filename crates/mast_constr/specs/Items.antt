@@ -7,6 +7,7 @@ use Rattle.mast_tbox.specs.declared.constraint.Constraint.{Constraint}
 use Rattle.mast_tbox.specs.declared.constraint.Constraint.TheVariants as constraint
 use Rattle.mast_tbox.specs.declared.expression.Prop.{Prop}
 use Rattle.mast_tbox.specs.declared.expression.Prop.TheVariants as prop
+use Rattle.mast_tbox.specs.Lists.{AreEach}
 use Rattle.mast_tree.specs.declared.item.Item.{Item}
 use Rattle.mast_tree.specs.declared.shape.ShapeKind.TheVariants.{Shape}
 use Rattle.mast_tree.specs.Judgements.{Judgement, breaks}
@@ -15,7 +16,6 @@ use Rattle.mast_expressions.specs.Given.{IsRole}
 use Rattle.mast_expressions.specs.Judged.{role_judged}
 use Rattle.mast_expressions.specs.Pages.{Page, says, IsNodeOf}
 use Rattle.mast_constr.specs.Denials.{Dates, deny_judged, AreDenied}
-use Rattle.mast_constr.specs.Lists.{AreEach}
 use Rattle.mast_constr.specs.Paths.{attribute_judged, identify_judged, IsAttrOf, AreIdentified}
 
 -- a property, by what its item says

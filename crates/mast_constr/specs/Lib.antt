@@ -1,4 +1,3 @@
-pub mod Lists
 pub mod Variables
 pub mod Paths
 pub mod Denials

@@ -6,6 +6,8 @@ use Rattle.mast_terms.specs.Vocabularies.{Lists}
 use Rattle.mast_tbox.specs.declared.expression.Basic.{Basic}
 use Rattle.mast_tbox.specs.declared.constraint.Step.{Step}
 use Rattle.mast_tbox.specs.declared.constraint.Step.TheVariants as step
+use Rattle.mast_tbox.specs.declared.constraint.TheConstants.{MOST_ATOMS}
+use Rattle.mast_tbox.specs.Lists.{AreEach}
 use Rattle.mast_tree.specs.declared.item.Item.{Item}
 use Rattle.mast_tree.specs.declared.shape.ShapeKind.TheVariants.{Shape, Atoms}
 use Rattle.mast_tree.specs.Judgements.{Judgement, breaks}
@@ -13,8 +15,6 @@ use Rattle.mast_tree.specs.Said.{Said, name, iri, text, tagged, binding, node, l
 use Rattle.mast_expressions.specs.Given.{IsClassIn, IsAttr, IsRole, IsLeft}
 use Rattle.mast_expressions.specs.Judged.{class_judged, attr_judged, role_judged, left_judged}
 use Rattle.mast_expressions.specs.Pages.{Page, says, IsNodeOf}
-use Rattle.mast_constr.specs.declared.paths.TheConstants.{MOST_ATOMS}
-use Rattle.mast_constr.specs.Lists.{AreEach}
 
 -- what stands in `Test(..)` at a line: a class
 abbrev pub test_judged : Page → ℕ → List Item → List Judgement

@@ -1,5 +1,5 @@
 -- The variables of a denial: `?` and an identifier, numbered in the order in which they first stand.
-use Rattle.std.specs.Prelude.{◌≡◌, ℕ, ◌==◌, ◌&&◌, if◌then◌else◌, List, [], ◌∷◌, ◌++◌, Option, Some, None, slice_get}
+use Rattle.std.specs.Prelude.{◌≡◌, ℕ, ◌==◌, ◌&&◌, Bool, if◌then◌else◌, List, [], ◌∷◌, ◌++◌, Option, Some, None, slice_get}
 use Rattle.std.specs.Str.{bytes_eq}
 use Rattle.mast_cq.specs.declared.atom.Arg.{Arg}
 use Rattle.mast_cq.specs.declared.atom.Arg.TheVariants as arg
@@ -27,6 +27,15 @@ variable other = None
 -- variables in the order of their numbers, each with the sort of its first place
 abbrev pub Variables : Type 0
 Variables = List (List ℕ × Sort)
+
+-- a place of this sort, if a variable stands in it
+abbrev pub place : Sort → Option (List ℕ) → Variables
+place sort None = []
+place sort (Some x) = (x, sort) ∷ []
+
+-- two places have the same variable
+abbrev pub same_name : List ℕ × Sort → List ℕ × Sort → Bool
+same_name v w = bytes_eq v.0 w.0
 
 -- the sort of a variable that stands among them
 abbrev pub sort_of : List ℕ → Variables → Option Sort

@@ -7,6 +7,7 @@ use Rattle.mast_tbox.specs.declared.axiom.Lined.{Lined}
 use Rattle.mast_tbox.specs.declared.constraint.Constraint.{Constraint}
 use Rattle.mast_tbox.specs.declared.constraint.Constraints.{Constraints}
 use Rattle.mast_tree.specs.declared.shape.ShapeBreach.{ShapeBreach}
+use Rattle.mast_tree.specs.Constants.{AreDates}
 use Rattle.mast_tree.specs.Judged.{Judging, IsRight, IsFirstBreach}
 use Rattle.mast_tree.specs.Seen.{Document}
 use Rattle.mast_expressions.specs.Pages.{page_of}
@@ -17,26 +18,30 @@ use Rattle.mast_constr.specs.Items.{constraints_judged, AreConstraints}
 abbrev pub judging : Dates → Document → Judging
 judging dates doc = λ prefixes inside. constraints_judged dates (page_of doc prefixes) inside
 
--- the document has these constraints, with these names and constants, by the names and constants that were there before
+-- by the dates of texts, the document has these constraints, with these names and constants, by the names and constants that were there before
 abbrev pub HasList : Dates → Document → Lists → Lists → List (Lined Constraint) → Type 0
 HasList dates doc old new list =
     IsRight doc (codes "Constraints") (judging dates doc) old new (λ prefixes inside. AreConstraints dates new (page_of doc prefixes) inside list)
 
--- the same of constraints with their vocabulary
-abbrev pub HasConstraints : Dates → Document → Lists → Constraints → Type 0
-HasConstraints dates doc old constraints = HasList dates doc old constraints.vocab constraints.list
+-- by these, this is the first breach of the document
+abbrev pub BreaksFirst : Dates → Document → Lists → ShapeBreach → Type 0
+BreaksFirst dates doc old breach = IsFirstBreach doc (codes "Constraints") (judging dates doc) old breach
+
+-- the document has these constraints, over the names and constants that were there before
+abbrev pub HasConstraints : Document → Lists → Constraints → Type 0
+HasConstraints doc old constraints = (dates : Dates) × AreDates dates × HasList dates doc old constraints.vocab constraints.list
 
 -- the first breach of the document
-abbrev pub IsConstraintsBreach : Dates → Document → Lists → ShapeBreach → Type 0
-IsConstraintsBreach dates doc old breach = IsFirstBreach doc (codes "Constraints") (judging dates doc) old breach
+abbrev pub IsConstraintsBreach : Document → Lists → ShapeBreach → Type 0
+IsConstraintsBreach doc old breach = (dates : Dates) × AreDates dates × BreaksFirst dates doc old breach
 
 -- the document was read
-abbrev pub ReadsConstraints : Dates → Document → Lists → Result Constraints (Stop ShapeBreach) → Type 0
-ReadsConstraints dates doc old result = Answers result (HasConstraints dates doc old) (IsConstraintsBreach dates doc old)
+abbrev pub ReadsConstraints : Document → Lists → Result Constraints (Stop ShapeBreach) → Type 0
+ReadsConstraints doc old result = Answers result (HasConstraints doc old) (IsConstraintsBreach doc old)
 
 -- a document has constraints or a first breach, not both, and only one of it
-pub record ConstraintsLaw (dates : Dates) (doc : Document) (old : Lists) : Type 0 where
-  pub either : ((constraints : Constraints) × HasConstraints dates doc old constraints) ⊎ ((breach : ShapeBreach) × IsConstraintsBreach dates doc old breach)
-  pub not_both : (constraints : Constraints) (breach : ShapeBreach) → HasConstraints dates doc old constraints → IsConstraintsBreach dates doc old breach → ⊥
-  pub one : (a b : Constraints) → HasConstraints dates doc old a → HasConstraints dates doc old b → a ≡ b
-  pub one_breach : (a b : ShapeBreach) → IsConstraintsBreach dates doc old a → IsConstraintsBreach dates doc old b → a ≡ b
+pub record ConstraintsLaw (doc : Document) (old : Lists) : Type 0 where
+  pub either : ((constraints : Constraints) × HasConstraints doc old constraints) ⊎ ((breach : ShapeBreach) × IsConstraintsBreach doc old breach)
+  pub not_both : (constraints : Constraints) (breach : ShapeBreach) → HasConstraints doc old constraints → IsConstraintsBreach doc old breach → ⊥
+  pub one : (a b : Constraints) → HasConstraints doc old a → HasConstraints doc old b → a ≡ b
+  pub one_breach : (a b : ShapeBreach) → IsConstraintsBreach doc old a → IsConstraintsBreach doc old b → a ≡ b

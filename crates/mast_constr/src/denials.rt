@@ -5,10 +5,10 @@ ghost use Rattle.mast_constr.specs.Variables.{variable as variable_of};
 ghost use Rattle.mast_constr.specs.inside.Rules as rules;
 ghost use Rattle.mast_constr.specs.inside.Rules.{page_in, said_in};
 
-use crate::paths::MOST_ATOMS;
 use crate::reader::{Reader, parted, shape};
 use crate::variables::{Sort, Variables, variable_in};
 use mast_cq::{Arg, Atom};
+use mast_tbox::MOST_ATOMS;
 use mast_terms::{AddRefusal, List, NameKind, Stop, Value, Vocabulary};
 use mast_tree::{Item, Layer, ShapeBreach, ShapeKind};
 use std::alloc::Global;

@@ -5,13 +5,10 @@ ghost use Rattle.mast_constr.specs.inside.Rules as rules;
 ghost use Rattle.mast_constr.specs.inside.Rules.{page_in};
 
 use crate::reader::{Reader, is_none, parted, shape};
-use mast_tbox::{Basic, Step};
+use mast_tbox::{Basic, MOST_ATOMS, Step};
 use mast_terms::{List, Name, Stop, Vocabulary};
 use mast_tree::{Item, Layer, ShapeBreach, ShapeKind};
 use std::alloc::Global;
-
-/// The greatest number of atoms of a denial, and of an identification's violation query.
-pub const MOST_ATOMS: usize = 24;
 
 impl<'d> Reader<'d> {
     // What stands in `Identify(..)`: a left side and one or more paths.

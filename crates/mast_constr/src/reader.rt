@@ -1,10 +1,8 @@
 //! A document of constraints, and its items.
 ghost use Rattle.std.specs.Prelude.{◌≡◌, [], ◌∷◌, MatchOption, IfOk};
 ghost use Rattle.mast_terms.specs.declared.memory.Stop.TheVariants as stop;
-ghost use Rattle.mast_tree.specs.Constants.{AreDates};
 ghost use Rattle.mast_tree.specs.Growing.{Begins};
 ghost use Rattle.mast_tree.specs.Seen.{seen};
-ghost use Rattle.mast_constr.specs.Denials.{Dates};
 ghost use Rattle.mast_constr.specs.Kept.{AreKept};
 ghost use Rattle.mast_constr.specs.Paths.{is_none as is_none_of};
 ghost use Rattle.mast_constr.specs.Whole.{ReadsConstraints};
@@ -176,10 +174,9 @@ pub fn read_constraints(
     doc: &Doc,
     vocab: Vocabulary,
 ) -> Result<Constraints, Stop<ShapeBreach>>
-    ensures exact { (dates : Dates) → AreDates dates → ReadsConstraints dates (seen doc.now) vocab result }
-    ensures begins { (dates : Dates) → AreDates dates → IfOk result (λ constraints. Begins constraints.vocab vocab) }
-    ensures kept { (dates : Dates) → AreDates dates
-        → IfOk result (λ constraints. AreKept constraints.vocab constraints.list) }
+    ensures exact { ReadsConstraints (seen doc.now) vocab result }
+    ensures begins { IfOk result (λ constraints. Begins constraints.vocab vocab) }
+    ensures kept { IfOk result AreKept }
 {
     let mut vocab = vocab;
     let parts = doc.parts(alloc, "Constraints")?;

@@ -1,6 +1,7 @@
 -- An ontology numbers no constant.
 use Rattle.std.proofs.Common.{◌≡◌, refl, sym, ap, ◌∙◌, ℕ, Bool, true, false, List, [], ◌∷◌, ◌++◌, Option, Some, None}
 use Rattle.std.specs.Prelude.{⊤, Result, Ok, Err, codes, if◌then◌else◌}
+use Rattle.std.specs.List.{flat_map}
 use Rattle.std.specs.Str.{bytes_eq}
 use Rattle.mast_terms.specs.declared.name.NameKind.{NameKind}
 use Rattle.mast_terms.specs.declared.name.NameKind.TheVariants as kinds
@@ -18,7 +19,6 @@ use Rattle.mast_tree.specs.Seen.{Document}
 use Rattle.mast_expressions.specs.Pages.{Page, page_of, says, names, owl_thing, rdfs_literal, expanded}
 use Rattle.mast_expressions.specs.Judged.{named_judged, inverse_judged, role_node, role_said, role_judged, compared, is_iri_judged, some_judged, subjects_judged, left_node, left_iri, left_said, left_judged}
 use Rattle.mast_onto.specs.Axioms.{breach_judged, declares, declared_judged, member_judged, form_judged, axiom_judged, type_said}
-use Rattle.mast_onto.specs.Lists.{each}
 use Rattle.mast_onto.specs.Nodes.{AxiomForm, nothing, declared, listed, below, range, wrong, axiom_form}
 use Rattle.mast_onto.specs.Ontologies.{is_iri, front_judged, behind_front, iris_judged, axioms, HasOntology}
 use Rattle.mast_onto.specs.Rights.{PartForm, thing, left, filled, complement, wrong as wrong_part, right_forms, part_judged}
@@ -49,9 +49,9 @@ two (uses kind x at ∷ xs) ys h g = two xs ys h g
 two (numbers value at ∷ xs) ys h g = h
 two (breaks kind at ∷ xs) ys h g = two xs ys h g
 
-of_each : {X : Type 0} (judged : X → List Judgement) → ((x : X) → NoConstants (judged x)) → (xs : List X) → NoConstants (each judged xs)
+of_each : {X : Type 0} (judged : X → List Judgement) → ((x : X) → NoConstants (judged x)) → (xs : List X) → NoConstants (flat_map judged xs)
 of_each judged none [] = tt
-of_each judged none (x ∷ xs) = two (judged x) (each judged xs) (none x) (of_each judged none xs)
+of_each judged none (x ∷ xs) = two (judged x) (flat_map judged xs) (none x) (of_each judged none xs)
 
 chosen : (b : Bool) (xs ys : List Judgement) → NoConstants xs → NoConstants ys → NoConstants (if b then xs else ys)
 chosen true xs ys h g = h
@@ -144,7 +144,7 @@ of_form page nothing = tt
 of_form page (declared kind item) = of_declared kind (expanded shape.NotDlLite page item) (line (says page item))
 of_form page (listed at relation items) = of_each (member_judged page at) (of_member page at) items
 of_form page (below at turned sub sup) =
-    two (member_judged page at sub) (each (part_judged page) (right_forms page sup)) (of_member page at sub) (of_each (part_judged page) (of_part page) (right_forms page sup))
+    two (member_judged page at sub) (flat_map (part_judged page) (right_forms page sup)) (of_member page at sub) (of_each (part_judged page) (of_part page) (right_forms page sup))
 of_form page (range attr of_type) = two (named_judged shape.NotDlLite kinds.Attr page attr) (breach_judged (type_said page of_type)) (of_name shape.NotDlLite kinds.Attr page attr) (of_breach (type_said page of_type))
 of_form page (wrong kind at) = tt
 
@@ -156,10 +156,10 @@ of_after : (doc : Document) (items : List Item) → NoConstants (after_judged do
 of_after doc [] = tt
 of_after doc (item ∷ items) = of_after doc items
 
-of_document : (page : Page) (inside behind : List Item) → NoConstants ((iris_judged page inside ++ each (axiom_judged page) (axioms page inside)) ++ after_judged page.doc behind)
+of_document : (page : Page) (inside behind : List Item) → NoConstants ((iris_judged page inside ++ flat_map (axiom_judged page) (axioms page inside)) ++ after_judged page.doc behind)
 of_document page inside behind =
-    two (iris_judged page inside ++ each (axiom_judged page) (axioms page inside)) (after_judged page.doc behind)
-    (two (iris_judged page inside) (each (axiom_judged page) (axioms page inside))
+    two (iris_judged page inside ++ flat_map (axiom_judged page) (axioms page inside)) (after_judged page.doc behind)
+    (two (iris_judged page inside) (flat_map (axiom_judged page) (axioms page inside))
     (two (front_judged page inside) (front_judged page (behind_front page inside)) (of_front page inside) (of_front page (behind_front page inside)))
     (of_each (axiom_judged page) (λ item. of_form page (axiom_form page item)) (axioms page inside)))
     (of_after page.doc behind)
@@ -168,5 +168,5 @@ of_document page inside behind =
 pub same_constants : (doc : Document) (old : Lists) (ontology : Ontology) → HasOntology doc old ontology → ontology.vocab.constants ≡ old.constants
 same_constants doc old ontology h =
     ap (λ (lists : Lists). lists.constants) h.right.right.then
-    ∙ constants_after old ((iris_judged (page_of doc h.right.prefixes) h.right.inside ++ each (axiom_judged (page_of doc h.right.prefixes)) (axioms (page_of doc h.right.prefixes) h.right.inside)) ++ after_judged doc h.right.after)
+    ∙ constants_after old ((iris_judged (page_of doc h.right.prefixes) h.right.inside ++ flat_map (axiom_judged (page_of doc h.right.prefixes)) (axioms (page_of doc h.right.prefixes) h.right.inside)) ++ after_judged doc h.right.after)
     (of_document (page_of doc h.right.prefixes) h.right.inside h.right.after)

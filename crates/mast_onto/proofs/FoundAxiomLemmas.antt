@@ -1,11 +1,13 @@
 -- Where nothing is wrong with an item among the axioms, it states something.
 use Rattle.std.proofs.Common.{◌≡◌, refl, sym, ap, ◌∙◌, subst, ℕ, Bool, List, [], ◌∷◌, ◌++◌, Option}
 use Rattle.std.specs.Prelude.{Result, Ok, Err, None, Some}
+use Rattle.std.specs.List.{flat_map}
 use Rattle.mast_terms.specs.declared.name.NameKind.TheVariants as kinds
 use Rattle.mast_terms.specs.declared.value.Kind.{Kind}
 use Rattle.mast_terms.specs.Vocabularies.{Lists}
 use Rattle.mast_tbox.specs.declared.axiom.Lined.{Lined}
 use Rattle.mast_tbox.specs.declared.expression.Basic.{Basic}
+use Rattle.mast_tbox.specs.Lists.{AreEach}
 use Rattle.mast_tree.specs.declared.item.Item.{Item}
 use Rattle.mast_tree.specs.declared.shape.ShapeBreach.{ShapeBreach}
 use Rattle.mast_tree.specs.declared.shape.ShapeKind.TheVariants.{NotDlLite}
@@ -18,7 +20,6 @@ use Rattle.mast_expressions.specs.Given.{IsNamed}
 use Rattle.mast_expressions.specs.Judged.{named_judged, role_judged}
 use Rattle.mast_expressions.proofs.FoundLemmas.{none_parts, named_found, role_found, left_found, role_behind, named_behind}
 use Rattle.mast_onto.specs.Axioms.{member_judged, form_judged, axiom_judged, breach_judged, type_said, turned_if, IsMember, IsSubject, IsAxiom}
-use Rattle.mast_onto.specs.Lists.{each, AreEach}
 use Rattle.mast_onto.specs.Nodes.{AxiomForm, nothing, declared, listed, below, range, wrong, axiom_form}
 use Rattle.mast_onto.specs.Ontologies.{IsStated}
 use Rattle.mast_onto.specs.Rights.{PartForm, thing, left, filled, complement, wrong as wrong_part, right_forms, right_judged, part_judged, IsPart}
@@ -46,16 +47,16 @@ behind Is kept old x y first second h =
 
 -- so do all elements of a list
 each_found : {X Y : Type 0} (judged : X → List Judgement) (Is : Lists → X → Y → Type 0) → Kept Is → Found judged Is → (old : Lists) (xs : List X)
-    → first_breach old (each judged xs) ≡ None → (ys : List Y) × AreEach (Is (after old (each judged xs))) xs ys
+    → first_breach old (flat_map judged xs) ≡ None → (ys : List Y) × AreEach (Is (after old (flat_map judged xs))) xs ys
 each_found judged Is kept found old [] h = ([], tt)
 each_found judged Is kept found old (x ∷ xs) h =
-    let parts = none_parts old (judged x) (each judged xs) h in
+    let parts = none_parts old (judged x) (flat_map judged xs) h in
     let one = found old x parts.0 in
     let more = each_found judged Is kept found (after old (judged x)) xs parts.1 in (
       one.0 ∷ more.0,
       (
-        behind Is kept old x one.0 (judged x) (each judged xs) one.1,
-        subst (λ lists. AreEach (Is lists) xs more.0) (sym (after-append old (judged x) (each judged xs))) more.1,
+        behind Is kept old x one.0 (judged x) (flat_map judged xs) one.1,
+        subst (λ lists. AreEach (Is lists) xs more.0) (sym (after-append old (judged x) (flat_map judged xs))) more.1,
       ),
     )
 

@@ -1,6 +1,7 @@
 -- What is read inside a main node, and what follows it.
 use Rattle.std.proofs.Common.{◌≡◌, ◌⊎◌, inl, inr, refl, sym, ap, ◌∙◌, subst, List, [], ◌++◌}
 use Rattle.std.specs.Prelude.{Result, Ok, Err, Some}
+use Rattle.std.specs.List.{flat_map}
 use Rattle.std.specs.Result.{IsErrAnd}
 use Rattle.mast_terms.specs.declared.memory.Stop.{Stop}
 use Rattle.mast_terms.specs.declared.memory.Stop.TheVariants.{Named, NoMemory}
@@ -13,11 +14,11 @@ use Rattle.mast_tree.specs.Judgements.{Judgement, first_breach, AreRight, Judges
 use Rattle.mast_tree.proofs.JudgementLemmas.{right_parts, breach_first, breach_second}
 use Rattle.mast_expressions.specs.Pages.{Page}
 use Rattle.mast_onto.specs.Axioms.{axiom_judged}
-use Rattle.mast_onto.specs.Lists.{each}
-use Rattle.mast_onto.specs.Ontologies.{front_judged, behind_front, iris_judged, axioms, inside_judged, IsBreachFrom, IsBreachIn}
+use Rattle.mast_onto.specs.Ontologies.{front_judged, behind_front, iris_judged, axioms, inside_judged, IsBreachAmong, IsBreachIn}
 use Rattle.mast_onto.specs.declared.statement.Statement.{Statement}
 use Rattle.mast_onto.specs.declared.statements.Statements.{Statements}
-use Rattle.mast_onto.specs.inside.Stating.{StateAll, AllStated, ReadsAxioms, ReadsInside}
+use Rattle.mast_onto.specs.inside.Stating.{StateAll, AllStated, ReadsAxioms, ReadsInside, IsBreachFrom}
+use Rattle.mast_onto.proofs.FrontLemmas.{within_none, among_from}
 
 -- the first IRI is wrong
 pub first_iri : (page : Page) (old : Lists) (inside after : List Item) (breach : ShapeBreach) → first_breach old (front_judged page inside) ≡ Some breach → IsBreachIn page old inside after breach
@@ -41,7 +42,8 @@ same_axioms page inside rest items e f = f ∙ ap (behind_front page) e
 -- an axiom is wrong, or what follows is
 pub axiom_wrong : (page : Page) (old : Lists) (inside items after : List Item) (breach : ShapeBreach) → items ≡ axioms page inside → AreRight old (iris_judged page inside) old
     → IsBreachFrom page old 0 items after breach → IsBreachIn page old inside after breach
-axiom_wrong page old inside items after breach e a h = inr (a.none, subst (λ xs. IsBreachFrom page old 0 xs after breach) e h)
+axiom_wrong page old inside items after breach e a h =
+    inr (a.none, subst (λ xs. IsBreachAmong page old xs after breach) e (among_from page old items after [] old [] breach (within_none page old) h))
 
 -- nothing is
 pub inside_right : (page : Page) (old new last : Lists) (inside items after : List Item) (statements : List (Lined Statement)) → items ≡ axioms page inside → AreRight old (iris_judged page inside) old
@@ -49,7 +51,7 @@ pub inside_right : (page : Page) (old new last : Lists) (inside items after : Li
     → AreRight old (inside_judged page inside ++ after_judged page.doc after) last
 inside_right page old new last inside items after statements e a h b =
     right_parts old new last (inside_judged page inside) (after_judged page.doc after)
-    (right_parts old old new (iris_judged page inside) (each (axiom_judged page) (axioms page inside)) a (subst (λ xs. AreRight old (each (axiom_judged page) xs) new) e h.right)) b
+    (right_parts old old new (iris_judged page inside) (flat_map (axiom_judged page) (axioms page inside)) a (subst (λ xs. AreRight old (flat_map (axiom_judged page) xs) new) e h.right)) b
 
 -- the statements are those of the axioms
 pub inside_states : (page : Page) (old new : Lists) (inside items : List Item) (statements : List (Lined Statement)) → items ≡ axioms page inside

@@ -6,7 +6,7 @@ use Rattle.mast_terms.specs.declared.name.Name.{Name}
 use Rattle.mast_terms.specs.declared.name.NameKind.{NameKind}
 use Rattle.mast_terms.specs.declared.name.NameKind.TheVariants as kinds
 use Rattle.mast_terms.specs.declared.value.Kind.{Kind}
-use Rattle.mast_terms.specs.Vocabularies.{Lists, iris}
+use Rattle.mast_terms.specs.Vocabularies.{Lists}
 use Rattle.mast_tbox.specs.declared.axiom.Inclusion.{Inclusion}
 use Rattle.mast_tbox.specs.declared.axiom.Inclusion.TheVariants as inclusion
 use Rattle.mast_tbox.specs.declared.axiom.Negative.{Negative}
@@ -18,15 +18,16 @@ use Rattle.mast_tbox.specs.declared.expression.RoleExpr.{RoleExpr}
 use Rattle.mast_tbox.specs.declared.expression.RoleExpr.TheVariants.{Direct, Inverse}
 use Rattle.mast_tbox.specs.declared.tbox.Ontology.{Ontology}
 use Rattle.mast_tbox.specs.Expressions.{same_basic, inverse_role}
-use Rattle.mast_tbox.specs.Lists.{items}
-use Rattle.mast_tbox.specs.Names.{BasicNamed, RoleNamed, PropNamed, InclusionNamed}
+use Rattle.mast_tbox.specs.Lists.{items, AreEach}
+use Rattle.mast_tbox.specs.Names.{BasicNamed, RoleNamed, PropNamed, InclusionNamed, NegativeNamed}
+use Rattle.mast_tbox.specs.Vocabularies.{StandsIn}
 use Rattle.mast_tree.specs.declared.item.Item.{Item}
 use Rattle.mast_tree.specs.Seen.{Document}
 use Rattle.mast_expressions.specs.Pages.{Page, page_of}
-use Rattle.mast_expressions.specs.Given.{IsNamed, IsInverseOf, IsRole, IsSomeOf, IsSubjectsOf, IsLeft}
+use Rattle.mast_expressions.proofs.KnownLemmas.{named_known, role_known, left_known}
 use Rattle.mast_onto.specs.Axioms.{IsMember, IsSubject, IsAxiom, turned_if}
-use Rattle.mast_onto.specs.Known.{IsKnown, NegativeNamed, AreKnown}
-use Rattle.mast_onto.specs.Lists.{AreEach, together}
+use Rattle.mast_onto.specs.Known.{HasNames}
+use Rattle.mast_onto.specs.Lists.{together}
 use Rattle.mast_onto.specs.Nodes.{AxiomForm, nothing, declared, listed, below, range, wrong, axiom_form}
 use Rattle.mast_onto.specs.Numbered.{with_number, next_number, numbered, if_inclusion, if_negative, if_functional, inclusions_in, negatives_in, functional_in}
 use Rattle.mast_onto.specs.Ontologies.{IsStated, HasOntology, axioms}
@@ -45,67 +46,29 @@ use Rattle.mast_onto.specs.declared.statement.Part.TheVariants as part
 use Rattle.mast_onto.specs.declared.statement.Statement.{Statement}
 use Rattle.mast_onto.specs.declared.statement.Statement.TheVariants as statement
 
--- what stands at a place of a list stands within it
-within : {A : Type 0} (xs : List A) (n : ℕ) (x : A) → slice_get xs n ≡ Some x → n < length xs
-within [] n x h = cc
-within (y ∷ ys) zero x h = omega arith
-within (y ∷ ys) (suc n) x h = let l = within ys n x h in omega arith
-
 -- all of two lists
 both : {A : Type 0} (P : A → Type 0) (xs ys : List A) → AllByRecursion P xs → AllByRecursion P ys → AllByRecursion P (xs ++ ys)
 both P [] ys h g = g
 both P (x ∷ xs) ys h g = (h.0, both P xs ys h.1 g)
 
--- a name
-named_known : (lists : Lists) (kind : NameKind) (page : Page) (item : Item) (n : Name) → IsNamed lists kind page item n → IsKnown lists kind n.0
-named_known lists kind page item n h = within (iris lists kind) n.0 h.0 h.2
-
-inverse_known : (lists : Lists) (page : Page) (xs : List Item) (p : Name) → IsInverseOf lists page xs p → IsKnown lists kinds.Role p.0
-inverse_known lists page [] p h = absurd h
-inverse_known lists page (only ∷ []) p h = named_known lists kinds.Role page only p h
-inverse_known lists page (one ∷ two ∷ more) p h = absurd h
-
--- a role
-role_known : (lists : Lists) (page : Page) (item : Item) (r : RoleExpr) → IsRole lists page item r → RoleNamed (IsKnown lists) r
-role_known lists page item (Direct p) h = named_known lists kinds.Role page item p h
-role_known lists page item (Inverse p) h = inverse_known lists page h.0 p h.2
-
-some_known : (lists : Lists) (page : Page) (xs : List Item) (r : RoleExpr) → IsSomeOf lists page xs r → RoleNamed (IsKnown lists) r
-some_known lists page [] r h = absurd h
-some_known lists page (one ∷ []) r h = absurd h
-some_known lists page (role ∷ filler ∷ []) r h = role_known lists page role r h.0
-some_known lists page (one ∷ two ∷ three ∷ more) r h = absurd h
-
-subjects_known : (lists : Lists) (page : Page) (xs : List Item) (u : Name) → IsSubjectsOf lists page xs u → IsKnown lists kinds.Attr u.0
-subjects_known lists page [] u h = absurd h
-subjects_known lists page (one ∷ []) u h = absurd h
-subjects_known lists page (attr ∷ filler ∷ []) u h = named_known lists kinds.Attr page attr u h.0
-subjects_known lists page (one ∷ two ∷ three ∷ more) u h = absurd h
-
--- a left side
-left_known : (lists : Lists) (page : Page) (item : Item) (b : Basic) → IsLeft lists page item b → BasicNamed (IsKnown lists) b
-left_known lists page item (basic.Class a) h = named_known lists kinds.Class page item a h
-left_known lists page item (basic.Some r) h = some_known lists page h.0 r h.2
-left_known lists page item (basic.Subjects u) h = subjects_known lists page h.0 u h.2
-
 -- the vocabulary has the name of the expression
 abbrev ExpressionKnown : Lists → Expression → Type 0
-ExpressionKnown lists (Concept b) = BasicNamed (IsKnown lists) b
-ExpressionKnown lists (Role r) = RoleNamed (IsKnown lists) r
-ExpressionKnown lists (Attr u) = IsKnown lists kinds.Attr u.0
+ExpressionKnown lists (Concept b) = BasicNamed (StandsIn lists) b
+ExpressionKnown lists (Role r) = RoleNamed (StandsIn lists) r
+ExpressionKnown lists (Attr u) = StandsIn lists kinds.Attr u.0
 
 -- the names of the part
 abbrev PartKnown : Lists → Part → Type 0
 PartKnown lists part.Thing = ⊤
-PartKnown lists (part.Basic b) = BasicNamed (IsKnown lists) b
-PartKnown lists (part.Qualified r a) = RoleNamed (IsKnown lists) r × IsKnown lists kinds.Class a.0
-PartKnown lists (part.Complement b) = BasicNamed (IsKnown lists) b
+PartKnown lists (part.Basic b) = BasicNamed (StandsIn lists) b
+PartKnown lists (part.Qualified r a) = RoleNamed (StandsIn lists) r × StandsIn lists kinds.Class a.0
+PartKnown lists (part.Complement b) = BasicNamed (StandsIn lists) b
 
 -- the names of the statement
 abbrev StatementKnown : Lists → Statement → Type 0
-StatementKnown lists (statement.Inclusion i) = InclusionNamed (IsKnown lists) i
-StatementKnown lists (statement.Negative n) = NegativeNamed (IsKnown lists) n
-StatementKnown lists (statement.Functional p) = PropNamed (IsKnown lists) p
+StatementKnown lists (statement.Inclusion i) = InclusionNamed (StandsIn lists) i
+StatementKnown lists (statement.Negative n) = NegativeNamed (StandsIn lists) n
+StatementKnown lists (statement.Functional p) = PropNamed (StandsIn lists) p
 
 -- those of all statements
 abbrev AllKnown : Lists → List Statement → Type 0
@@ -163,7 +126,7 @@ parts_known lists page [] (p ∷ ps) h = absurd h
 parts_known lists page (f ∷ fs) [] h = absurd h
 parts_known lists page (f ∷ fs) (p ∷ ps) h = (part_known lists page f p h.0, parts_known lists page fs ps h.1)
 
-inverse_role_known : (lists : Lists) (r : RoleExpr) → RoleNamed (IsKnown lists) r → RoleNamed (IsKnown lists) (inverse_role r)
+inverse_role_known : (lists : Lists) (r : RoleExpr) → RoleNamed (StandsIn lists) r → RoleNamed (StandsIn lists) (inverse_role r)
 inverse_role_known lists (Direct p) h = h
 inverse_role_known lists (Inverse p) h = h
 
@@ -176,12 +139,12 @@ turned_known : (lists : Lists) (turned : Bool) (e : Expression) → ExpressionKn
 turned_known lists true e h = inverse_of_known lists e h
 turned_known lists false e h = h
 
-of_subjects_known : (lists : Lists) (e : Expression) → ExpressionKnown lists e → BasicNamed (IsKnown lists) (says.subjects_of e)
+of_subjects_known : (lists : Lists) (e : Expression) → ExpressionKnown lists e → BasicNamed (StandsIn lists) (says.subjects_of e)
 of_subjects_known lists (Concept b) h = h
 of_subjects_known lists (Role r) h = h
 of_subjects_known lists (Attr u) h = h
 
-basic_in_known : (lists : Lists) (b c : Basic) → BasicNamed (IsKnown lists) b → BasicNamed (IsKnown lists) c → InclusionNamed (IsKnown lists) (says.basic_in b c)
+basic_in_known : (lists : Lists) (b c : Basic) → BasicNamed (StandsIn lists) b → BasicNamed (StandsIn lists) c → InclusionNamed (StandsIn lists) (says.basic_in b c)
 basic_in_known lists b (basic.Class a) h g = (h, g)
 basic_in_known lists b (basic.Some r) h g = (h, (g, tt))
 basic_in_known lists b (basic.Subjects u) h g = (h, g)
@@ -288,24 +251,24 @@ unless_all : (lists : Lists) (is : Bool) (xs : List Statement) → AllKnown list
 unless_all lists true xs h = tt
 unless_all lists false xs h = h
 
-below_known : (lists : Lists) (b : Basic) (p : Part) → BasicNamed (IsKnown lists) b → PartKnown lists p → AllKnown lists (says.stated_below b p)
+below_known : (lists : Lists) (b : Basic) (p : Part) → BasicNamed (StandsIn lists) b → PartKnown lists p → AllKnown lists (says.stated_below b p)
 below_known lists b part.Thing h g = tt
 below_known lists b (part.Basic c) h g = unless_all lists (same_basic b c) (statement.Inclusion (says.basic_in b c) ∷ []) (basic_in_known lists b c h g, tt)
 below_known lists b (part.Qualified r a) h g = ((h, (g.0, g.1)), tt)
 below_known lists b (part.Complement c) h g = ((h, g), tt)
 
-all_below_known : (lists : Lists) (at : ℕ) (b : Basic) (ps : List Part) → BasicNamed (IsKnown lists) b → AllByRecursion (PartKnown lists) ps → LinesKnown lists (says.below_parts at b ps)
+all_below_known : (lists : Lists) (at : ℕ) (b : Basic) (ps : List Part) → BasicNamed (StandsIn lists) b → AllByRecursion (PartKnown lists) ps → LinesKnown lists (says.below_parts at b ps)
 all_below_known lists at b [] h g = tt
 all_below_known lists at b (p ∷ ps) h g =
     two_parts lists (says.lined at (says.stated_below b p)) (says.below_parts at b ps) (lines lists at (says.stated_below b p) (below_known lists b p h g.0)) (all_below_known lists at b ps h g.1)
 
-ranged_known : (lists : Lists) (at : ℕ) (u : Name) (kind : Option Kind) → IsKnown lists kinds.Attr u.0 → LinesKnown lists (says.ranged at u kind)
+ranged_known : (lists : Lists) (at : ℕ) (u : Name) (kind : Option Kind) → StandsIn lists kinds.Attr u.0 → LinesKnown lists (says.ranged at u kind)
 ranged_known lists at u None h = tt
 ranged_known lists at u (Some kind) h = (h, tt)
 
-subject_known : (lists : Lists) (page : Page) (at : Place) (turned : Bool) (item : Item) (b : Basic) → IsSubject page at turned lists item b → BasicNamed (IsKnown lists) b
+subject_known : (lists : Lists) (page : Page) (at : Place) (turned : Bool) (item : Item) (b : Basic) → IsSubject page at turned lists item b → BasicNamed (StandsIn lists) b
 subject_known lists page at turned item b h =
-    subst (BasicNamed (IsKnown lists)) (sym h.is)
+    subst (BasicNamed (StandsIn lists)) (sym h.is)
     (of_subjects_known lists (turned_if turned h.expression) (turned_known lists turned h.expression (member_known lists page at item h.expression h.said)))
 
 axiom_known : (lists : Lists) (page : Page) (form : AxiomForm) (read : Axiom) (at : ℕ) → IsAxiom page lists form read → LinesKnown lists (says.stated at read)
@@ -340,35 +303,35 @@ all_known lists page (x ∷ xs) [] h = absurd h
 all_known lists page (x ∷ xs) (s ∷ ss) h = two_parts lists s (together ss) (stated_known lists page x s h.0) (all_known lists page xs ss h.1)
 
 -- those of each kind
-inclusions_known : (lists : Lists) (ls : List (Lined Statement)) → LinesKnown lists ls → AllByRecursion (InclusionNamed (IsKnown lists)) (items (inclusions_in ls))
+inclusions_known : (lists : Lists) (ls : List (Lined Statement)) → LinesKnown lists ls → AllByRecursion (InclusionNamed (StandsIn lists)) (items (inclusions_in ls))
 inclusions_known lists [] h = tt
 inclusions_known lists (l ∷ ls) h = by l.line l.item h.0 (inclusions_known lists ls h.1)
   where
-    by : (at : ℕ) (s : Statement) → StatementKnown lists s → AllByRecursion (InclusionNamed (IsKnown lists)) (items (inclusions_in ls)) → AllByRecursion (InclusionNamed (IsKnown lists)) (items (if_inclusion at s (inclusions_in ls)))
+    by : (at : ℕ) (s : Statement) → StatementKnown lists s → AllByRecursion (InclusionNamed (StandsIn lists)) (items (inclusions_in ls)) → AllByRecursion (InclusionNamed (StandsIn lists)) (items (if_inclusion at s (inclusions_in ls)))
     by at (statement.Inclusion i) g rest = (g, rest)
     by at (statement.Negative n) g rest = rest
     by at (statement.Functional p) g rest = rest
 
-negatives_known : (lists : Lists) (ls : List (Lined Statement)) → LinesKnown lists ls → AllByRecursion (NegativeNamed (IsKnown lists)) (items (negatives_in ls))
+negatives_known : (lists : Lists) (ls : List (Lined Statement)) → LinesKnown lists ls → AllByRecursion (NegativeNamed (StandsIn lists)) (items (negatives_in ls))
 negatives_known lists [] h = tt
 negatives_known lists (l ∷ ls) h = by l.line l.item h.0 (negatives_known lists ls h.1)
   where
-    by : (at : ℕ) (s : Statement) → StatementKnown lists s → AllByRecursion (NegativeNamed (IsKnown lists)) (items (negatives_in ls)) → AllByRecursion (NegativeNamed (IsKnown lists)) (items (if_negative at s (negatives_in ls)))
+    by : (at : ℕ) (s : Statement) → StatementKnown lists s → AllByRecursion (NegativeNamed (StandsIn lists)) (items (negatives_in ls)) → AllByRecursion (NegativeNamed (StandsIn lists)) (items (if_negative at s (negatives_in ls)))
     by at (statement.Inclusion i) g rest = rest
     by at (statement.Negative n) g rest = (g, rest)
     by at (statement.Functional p) g rest = rest
 
-props_known : (lists : Lists) (ls : List (Lined Statement)) → LinesKnown lists ls → AllByRecursion (PropNamed (IsKnown lists)) (items (functional_in ls))
+props_known : (lists : Lists) (ls : List (Lined Statement)) → LinesKnown lists ls → AllByRecursion (PropNamed (StandsIn lists)) (items (functional_in ls))
 props_known lists [] h = tt
 props_known lists (l ∷ ls) h = by l.line l.item h.0 (props_known lists ls h.1)
   where
-    by : (at : ℕ) (s : Statement) → StatementKnown lists s → AllByRecursion (PropNamed (IsKnown lists)) (items (functional_in ls)) → AllByRecursion (PropNamed (IsKnown lists)) (items (if_functional at s (functional_in ls)))
+    by : (at : ℕ) (s : Statement) → StatementKnown lists s → AllByRecursion (PropNamed (StandsIn lists)) (items (functional_in ls)) → AllByRecursion (PropNamed (StandsIn lists)) (items (if_functional at s (functional_in ls)))
     by at (statement.Inclusion i) g rest = rest
     by at (statement.Negative n) g rest = rest
     by at (statement.Functional p) g rest = (g, rest)
 
 -- a number changes no name
-number_known : (lists : Lists) (n : ℕ) (i : Inclusion) → InclusionNamed (IsKnown lists) i → InclusionNamed (IsKnown lists) (with_number n i)
+number_known : (lists : Lists) (n : ℕ) (i : Inclusion) → InclusionNamed (StandsIn lists) i → InclusionNamed (StandsIn lists) (with_number n i)
 number_known lists n (inclusion.Class b a) h = h
 number_known lists n (inclusion.Exists b r end k) h = h
 number_known lists n (inclusion.HasValue b u k) h = h
@@ -376,17 +339,17 @@ number_known lists n (inclusion.Role r s) h = h
 number_known lists n (inclusion.Attr u v) h = h
 number_known lists n (inclusion.Range u kind) h = h
 
-numbered_known : (lists : Lists) (n : ℕ) (ls : List (Lined Inclusion)) → AllByRecursion (InclusionNamed (IsKnown lists)) (items ls) → AllByRecursion (InclusionNamed (IsKnown lists)) (items (numbered n ls))
+numbered_known : (lists : Lists) (n : ℕ) (ls : List (Lined Inclusion)) → AllByRecursion (InclusionNamed (StandsIn lists)) (items ls) → AllByRecursion (InclusionNamed (StandsIn lists)) (items (numbered n ls))
 numbered_known lists n [] h = tt
 numbered_known lists n (l ∷ ls) h = (number_known lists n l.item h.0, numbered_known lists (next_number n l.item) ls h.1)
 
 -- the vocabulary of an ontology has each name of its axioms
-pub ontology_known : (doc : Document) (old : Lists) (ontology : Ontology) → HasOntology doc old ontology → AreKnown ontology.vocab ontology.tbox
+pub ontology_known : (doc : Document) (old : Lists) (ontology : Ontology) → HasOntology doc old ontology → HasNames ontology
 ontology_known doc old ontology h =
     let lists : Lists = ontology.vocab in
     let known = all_known lists (page_of doc h.right.prefixes) (axioms (page_of doc h.right.prefixes) h.right.inside) h.of_each h.right.gives.0 in
     record {
-      of_inclusions = subst (λ ls. AllByRecursion (InclusionNamed (IsKnown lists)) (items ls)) (sym h.inclusions) (numbered_known lists 0 (inclusions_in (together h.of_each)) (inclusions_known lists (together h.of_each) known));
-      of_negatives = subst (λ ls. AllByRecursion (NegativeNamed (IsKnown lists)) (items ls)) (sym h.negatives) (negatives_known lists (together h.of_each) known);
-      of_functional = subst (λ ls. AllByRecursion (PropNamed (IsKnown lists)) (items ls)) (sym h.functional) (props_known lists (together h.of_each) known);
+      of_inclusions = subst (λ ls. AllByRecursion (InclusionNamed (StandsIn lists)) (items ls)) (sym h.inclusions) (numbered_known lists 0 (inclusions_in (together h.of_each)) (inclusions_known lists (together h.of_each) known));
+      of_negatives = subst (λ ls. AllByRecursion (NegativeNamed (StandsIn lists)) (items ls)) (sym h.negatives) (negatives_known lists (together h.of_each) known);
+      of_functional = subst (λ ls. AllByRecursion (PropNamed (StandsIn lists)) (items ls)) (sym h.functional) (props_known lists (together h.of_each) known);
     }

@@ -1,10 +1,12 @@
 -- A document has an ontology or a first breach, not both, and only one of it.
 use Rattle.std.proofs.Common.{◌≡◌, ◌⊎◌, inl, inr, refl, sym, ap, ◌∙◌, subst, ℕ, ◌+◌, ◌<◌, ◌≤◌, List, [], ◌∷◌, ◌++◌, length, append_assoc, Option, arith}
 use Rattle.std.specs.Prelude.{None, Some, codes}
+use Rattle.std.specs.List.{flat_map}
 use Rattle.std.proofs.lemmas.Bool.Decides.{leb_tells}
 use Rattle.std.proofs.lemmas.List.{length-append}
 use Rattle.mast_terms.specs.Vocabularies.{Lists, IsVocabulary}
 use Rattle.mast_tbox.specs.declared.axiom.Lined.{Lined}
+use Rattle.mast_tbox.specs.Lists.{AreEach}
 use Rattle.mast_tree.specs.declared.item.Item.{Item}
 use Rattle.mast_tree.specs.declared.shape.ShapeBreach.{ShapeBreach}
 use Rattle.mast_tree.specs.Judged.{after_judged}
@@ -17,17 +19,18 @@ use Rattle.mast_expressions.specs.Pages.{Page, says}
 use Rattle.mast_expressions.proofs.FoundLemmas.{none_parts}
 use Rattle.mast_tree.proofs.VocabularyLemmas.{after_lawful}
 use Rattle.mast_onto.specs.Axioms.{axiom_judged}
-use Rattle.mast_onto.specs.Lists.{each, AreEach, together}
-use Rattle.mast_onto.specs.Ontologies.{IsStated, IsBreachFrom, items_at}
+use Rattle.mast_onto.specs.Lists.{together}
+use Rattle.mast_onto.specs.Ontologies.{IsStated, items_at}
 use Rattle.mast_onto.specs.declared.statement.Statement.{Statement}
 use Rattle.mast_onto.specs.declared.statements.TheConstants.{MOST_ITEMS}
+use Rattle.mast_onto.specs.inside.Stating.{IsBreachFrom}
 use Rattle.mast_onto.proofs.FoundAxiomLemmas.{stated_found}
 use Rattle.mast_onto.proofs.KeptLemmas.{stated_kept}
 use Rattle.mast_onto.proofs.OneAxiomLemmas.{stated_one}
 
 -- axioms behind which so many items are stated are right, and what follows them
 pub record RightFrom (page : Page) (now : Lists) (count : ℕ) (items behind : List Item) (new : Lists) (of_each : List (List (Lined Statement))) : Type 0 where
-  pub right : AreRight now (each (axiom_judged page) items ++ after_judged page.doc behind) new
+  pub right : AreRight now (flat_map (axiom_judged page) items ++ after_judged page.doc behind) new
   pub states : AreEach (IsStated page new) items of_each
   pub few : count + length (together of_each) ≤ MOST_ITEMS
 
@@ -50,16 +53,16 @@ split_right old new first second h =
 
 -- the first axiom, the others and what follows
 next_right : (page : Page) (now mid new : Lists) (item : Item) (items behind : List Item) → AreRight now (axiom_judged page item) mid
-    → AreRight mid (each (axiom_judged page) items ++ after_judged page.doc behind) new → AreRight now (each (axiom_judged page) (item ∷ items) ++ after_judged page.doc behind) new
+    → AreRight mid (flat_map (axiom_judged page) items ++ after_judged page.doc behind) new → AreRight now (flat_map (axiom_judged page) (item ∷ items) ++ after_judged page.doc behind) new
 next_right page now mid new item items behind h g =
-    subst (λ js. AreRight now js new) (sym (append_assoc (axiom_judged page item) (each (axiom_judged page) items) (after_judged page.doc behind)))
-    (right_parts now mid new (axiom_judged page item) (each (axiom_judged page) items ++ after_judged page.doc behind) h g)
+    subst (λ js. AreRight now js new) (sym (append_assoc (axiom_judged page item) (flat_map (axiom_judged page) items) (after_judged page.doc behind)))
+    (right_parts now mid new (axiom_judged page item) (flat_map (axiom_judged page) items ++ after_judged page.doc behind) h g)
 
-split_next : (page : Page) (now new : Lists) (item : Item) (items behind : List Item) → AreRight now (each (axiom_judged page) (item ∷ items) ++ after_judged page.doc behind) new
-    → AreRight now (axiom_judged page item) (after now (axiom_judged page item)) × AreRight (after now (axiom_judged page item)) (each (axiom_judged page) items ++ after_judged page.doc behind) new
+split_next : (page : Page) (now new : Lists) (item : Item) (items behind : List Item) → AreRight now (flat_map (axiom_judged page) (item ∷ items) ++ after_judged page.doc behind) new
+    → AreRight now (axiom_judged page item) (after now (axiom_judged page item)) × AreRight (after now (axiom_judged page item)) (flat_map (axiom_judged page) items ++ after_judged page.doc behind) new
 split_next page now new item items behind h =
-    split_right now new (axiom_judged page item) (each (axiom_judged page) items ++ after_judged page.doc behind)
-    (subst (λ js. AreRight now js new) (append_assoc (axiom_judged page item) (each (axiom_judged page) items) (after_judged page.doc behind)) h)
+    split_right now new (axiom_judged page item) (flat_map (axiom_judged page) items ++ after_judged page.doc behind)
+    (subst (λ js. AreRight now js new) (append_assoc (axiom_judged page item) (flat_map (axiom_judged page) items) (after_judged page.doc behind)) h)
 
 -- what is right, or its first breach
 abbrev pub RightOr : Page → Lists → ℕ → List Item → List Item → Type 0
@@ -73,7 +76,8 @@ end_or page now count behind (Some breach) few e = inr (breach, e)
 more_few : (count : ℕ) (more : List (Lined Statement)) (of_each : List (List (Lined Statement))) → count + length more + length (together of_each) ≤ MOST_ITEMS → count + length (together (more ∷ of_each)) ≤ MOST_ITEMS
 more_few count more of_each h = let l : length (together (more ∷ of_each)) ≡ length more + length (together of_each) = length-append more (together of_each) in omega arith
 
-less_few : (count : ℕ) (more : List (Lined Statement)) (of_each : List (List (Lined Statement))) → count + length (together (more ∷ of_each)) ≤ MOST_ITEMS → count + length more + length (together of_each) ≤ MOST_ITEMS
+-- what is few with the first axiom's items is few with those of the others
+pub less_few : (count : ℕ) (more : List (Lined Statement)) (of_each : List (List (Lined Statement))) → count + length (together (more ∷ of_each)) ≤ MOST_ITEMS → count + length more + length (together of_each) ≤ MOST_ITEMS
 less_few count more of_each h = let l : length (together (more ∷ of_each)) ≡ length more + length (together of_each) = length-append more (together of_each) in omega arith
 
 next_or : (page : Page) (now : Lists) (count : ℕ) (item : Item) (items behind : List Item) (more : List (Lined Statement))
@@ -85,7 +89,7 @@ next_or page now count item items behind more e states few (inl r) =
       more ∷ r.1,
       record {
         right = next_right page now (after now (axiom_judged page item)) r.0 item items behind (right_after now (axiom_judged page item) e) r.2.right;
-        states = (stated_kept page r.0 (after now (axiom_judged page item)) item more (right_begins (after now (axiom_judged page item)) r.0 (each (axiom_judged page) items ++ after_judged page.doc behind) r.2.right) states, r.2.states);
+        states = (stated_kept page r.0 (after now (axiom_judged page item)) item more (right_begins (after now (axiom_judged page item)) r.0 (flat_map (axiom_judged page) items ++ after_judged page.doc behind) r.2.right) states, r.2.states);
         few = more_few count more r.1 r.2.few;
       },
     )
@@ -122,7 +126,7 @@ some_one : (a : Option ShapeBreach) (b c : ShapeBreach) → a ≡ Some b → a �
 some_one a b c h g = cc
 
 -- what an axiom states within a vocabulary is what it states in one that begins with it
-same_stated : (page : Page) (now new mid : Lists) (item : Item) (js : List Judgement) (xs ys : List (Lined Statement)) → IsVocabulary new → mid ≡ after now (axiom_judged page item)
+pub same_stated : (page : Page) (now new mid : Lists) (item : Item) (js : List Judgement) (xs ys : List (Lined Statement)) → IsVocabulary new → mid ≡ after now (axiom_judged page item)
     → AreRight (after now (axiom_judged page item)) js new → IsStated page new item xs → IsStated page mid item ys → ys ≡ xs
 same_stated page now new mid item js xs ys v e r h g =
     stated_one new v page item ys xs
@@ -147,8 +151,8 @@ right_not_from page (item ∷ items) behind now count new (s ∷ ss) breach v r 
     some_none (first_breach now (axiom_judged page item)) breach (split_next page now new item items behind r.right).0.none e
 right_not_from page (item ∷ items) behind now count new (s ∷ ss) breach v r (inr b) =
     let both = split_next page now new item items behind r.right in
-    let last : IsVocabulary new = then_vocabulary now new (each (axiom_judged page) (item ∷ items) ++ after_judged page.doc behind) v r.right in
-    let same : b.1 ≡ s = same_stated page now new b.0 item (each (axiom_judged page) items ++ after_judged page.doc behind) s b.1 last b.2.then both.1 r.states.0 b.3 in
+    let last : IsVocabulary new = then_vocabulary now new (flat_map (axiom_judged page) (item ∷ items) ++ after_judged page.doc behind) v r.right in
+    let same : b.1 ≡ s = same_stated page now new b.0 item (flat_map (axiom_judged page) items ++ after_judged page.doc behind) s b.1 last b.2.then both.1 r.states.0 b.3 in
     let few : count + length s + length (together ss) ≤ MOST_ITEMS = less_few count s ss r.few in
     not_later page (after now (axiom_judged page item)) count item items behind s ss breach few
     (right_not_from page items behind (after now (axiom_judged page item)) (count + length s) new ss breach (then_vocabulary now (after now (axiom_judged page item)) (axiom_judged page item) v both.0)

@@ -7,6 +7,7 @@ pub mod KnownLemmas
 pub mod OneAxiomLemmas
 pub mod FoundAxiomLemmas
 pub mod LawLemmas
+pub mod FrontLemmas
 pub mod WholeLemmas
 pub mod ConstantLemmas
 pub mod InsideLemmas

@@ -9,6 +9,8 @@ use Rattle.mast_terms.specs.Vocabularies.{Lists, IsVocabulary}
 use Rattle.mast_tbox.specs.declared.axiom.Lined.{Lined}
 use Rattle.mast_tbox.specs.declared.expression.Basic.{Basic}
 use Rattle.mast_tbox.specs.declared.expression.RoleExpr.{RoleExpr}
+use Rattle.mast_tbox.specs.Lists.{AreEach}
+use Rattle.mast_tbox.proofs.EachLemmas.{each_one}
 use Rattle.mast_tree.specs.declared.item.Item.{Item}
 use Rattle.mast_tree.specs.declared.shape.ShapeBreach.{ShapeBreach}
 use Rattle.mast_tree.specs.declared.shape.ShapeKind.{ShapeKind}
@@ -17,7 +19,6 @@ use Rattle.mast_expressions.specs.Pages.{Page, says}
 use Rattle.mast_expressions.specs.Given.{IsClassIn, IsAttr, IsRole, IsLeft}
 use Rattle.mast_expressions.proofs.OneLemmas.{named_one, role_one, left_one}
 use Rattle.mast_onto.specs.Axioms.{IsMember, IsSubject, IsAxiom, turned_if, type_said}
-use Rattle.mast_onto.specs.Lists.{AreEach}
 use Rattle.mast_onto.specs.Nodes.{AxiomForm, nothing, declared, listed, below, range, wrong, axiom_form}
 use Rattle.mast_onto.specs.Ontologies.{IsStated}
 use Rattle.mast_onto.specs.Rights.{PartForm, thing, left, filled, complement, wrong as wrong_part, right_forms, IsPart}
@@ -32,16 +33,6 @@ use Rattle.mast_onto.specs.declared.statement.Expression.TheVariants.{Concept, R
 use Rattle.mast_onto.specs.declared.statement.Part.{Part}
 use Rattle.mast_onto.specs.declared.statement.Part.TheVariants as part
 use Rattle.mast_onto.specs.declared.statement.Statement.{Statement}
-
--- where each element gives one thing, a list gives one list
-pub each_one : {X Y : Type 0} (R : X → Y → Type 0) → ((x : X) (y z : Y) → R x y → R x z → y ≡ z) → (xs : List X) (ys zs : List Y) → AreEach R xs ys → AreEach R xs zs → ys ≡ zs
-each_one R one [] [] [] h g = refl
-each_one R one [] [] (z ∷ zs) h g = absurd g
-each_one R one [] (y ∷ ys) zs h g = absurd h
-each_one R one (x ∷ xs) [] zs h g = absurd h
-each_one R one (x ∷ xs) (y ∷ ys) [] h g = absurd g
-each_one R one (x ∷ xs) (y ∷ ys) (z ∷ zs) h g =
-    ap (λ a. a ∷ ys) (one x y z h.0 g.0) ∙ ap (λ es. z ∷ es) (each_one R one xs ys zs h.1 g.1)
 
 -- the part of each form
 thing_gives : (lists : Lists) (page : Page) (p : Part) → IsPart page lists thing p → p ≡ part.Thing

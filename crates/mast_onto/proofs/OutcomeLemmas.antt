@@ -9,7 +9,7 @@ use Rattle.mast_tree.specs.declared.shape.ShapeBreach.{ShapeBreach}
 use Rattle.mast_tree.specs.Growing.{Begins}
 use Rattle.mast_tree.specs.Seen.{Document}
 use Rattle.mast_tree.proofs.GrowingLemmas.{right_begins}
-use Rattle.mast_onto.specs.Known.{AreKnown}
+use Rattle.mast_onto.specs.Known.{HasNames}
 use Rattle.mast_onto.specs.Ontologies.{HasOntology, IsOntologyBreach}
 use Rattle.mast_onto.proofs.ConstantLemmas.{same_constants}
 use Rattle.mast_onto.proofs.KnownLemmas.{ontology_known}
@@ -29,6 +29,6 @@ outcome_constants doc old (Ok o) h = same_constants doc old o h
 outcome_constants doc old (Err why) h = tt
 
 -- the vocabulary has all names
-pub outcome_names : (doc : Document) (old : Lists) (result : Result Ontology (Stop ShapeBreach)) → Reads doc old result → IfOk result (λ o. AreKnown o.vocab o.tbox)
+pub outcome_names : (doc : Document) (old : Lists) (result : Result Ontology (Stop ShapeBreach)) → Reads doc old result → IfOk result HasNames
 outcome_names doc old (Ok o) h = ontology_known doc old o h
 outcome_names doc old (Err why) h = tt

@@ -14,13 +14,13 @@ use Rattle.mast_tree.specs.Said.{line}
 use Rattle.mast_expressions.specs.Pages.{Page, says}
 use Rattle.mast_onto.specs.Axioms.{breach_judged, form_judged, axiom_judged, IsAxiom}
 use Rattle.mast_onto.specs.Nodes.{AxiomForm, axiom_form}
-use Rattle.mast_onto.specs.Ontologies.{items_at, IsBreachFrom}
+use Rattle.mast_onto.specs.Ontologies.{items_at, PassesHere}
 use Rattle.mast_onto.specs.Stated.{stated}
 use Rattle.mast_onto.specs.declared.statement.Axiom.{Axiom}
 use Rattle.mast_onto.specs.declared.statement.Statement.{Statement}
 use Rattle.mast_onto.specs.declared.statements.TheConstants.{MOST_ITEMS}
 use Rattle.mast_onto.specs.inside.Growing.{Adds}
-use Rattle.mast_onto.specs.inside.Stating.{ReadsStated, StatesOne, PassesHere}
+use Rattle.mast_onto.specs.inside.Stating.{ReadsStated, StatesOne}
 
 right_value : {T : Type 0} (lists : Lists) (e : Result T ShapeBreach) (x : T) → e ≡ Ok x → AreRight lists (breach_judged e) lists
 right_value lists e x h = record {

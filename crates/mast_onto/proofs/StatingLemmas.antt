@@ -1,12 +1,14 @@
 -- Axioms that are read one by one, within the limit.
 use Rattle.std.proofs.Common.{◌≡◌, ◌⊎◌, inl, inr, refl, sym, ap, ◌∙◌, subst, ℕ, ◌+◌, ◌<◌, ◌≤◌, List, [], ◌∷◌, ◌++◌, length, append_assoc, append-nil, arith}
 use Rattle.std.specs.Prelude.{Result, Ok, Err, Some}
+use Rattle.std.specs.List.{flat_map}
 use Rattle.std.specs.Result.{IsErrAnd}
 use Rattle.mast_terms.specs.declared.memory.Stop.{Stop}
 use Rattle.mast_terms.specs.declared.memory.Stop.TheVariants.{Named, NoMemory}
 use Rattle.std.proofs.lemmas.List.{length-append}
 use Rattle.mast_terms.specs.Vocabularies.{Lists}
 use Rattle.mast_tbox.specs.declared.axiom.Lined.{Lined}
+use Rattle.mast_tbox.specs.Lists.{AreEach}
 use Rattle.mast_tree.specs.declared.item.Item.{Item}
 use Rattle.mast_tree.specs.declared.shape.ShapeBreach.{ShapeBreach}
 use Rattle.mast_tree.specs.Judgements.{first_breach, AreRight}
@@ -14,12 +16,12 @@ use Rattle.mast_tree.proofs.GrowingLemmas.{right_begins}
 use Rattle.mast_tree.proofs.JudgementLemmas.{right_parts}
 use Rattle.mast_expressions.specs.Pages.{Page}
 use Rattle.mast_onto.specs.Axioms.{axiom_judged}
-use Rattle.mast_onto.specs.Lists.{each, AreEach, together}
-use Rattle.mast_onto.specs.Ontologies.{IsStated, IsBreachFrom}
+use Rattle.mast_onto.specs.Lists.{together}
+use Rattle.mast_onto.specs.Ontologies.{IsStated, PassesHere}
 use Rattle.mast_onto.specs.declared.statement.Statement.{Statement}
 use Rattle.mast_onto.specs.declared.statements.Statements.{Statements}
 use Rattle.mast_onto.specs.declared.statements.TheConstants.{MOST_ITEMS}
-use Rattle.mast_onto.specs.inside.Stating.{StatesOne, PassesHere, StateAll, AllStated, LeadsOn, ReadsStated, ReadsAxioms}
+use Rattle.mast_onto.specs.inside.Stating.{StatesOne, StateAll, AllStated, LeadsOn, ReadsStated, ReadsAxioms, IsBreachFrom}
 use Rattle.mast_onto.proofs.KeptLemmas.{stated_kept}
 use Rattle.mast_onto.proofs.LeadLemmas.{right_nothing}
 
@@ -35,10 +37,10 @@ pub on_next : (page : Page) (old now new : Lists) (whole rest : List Item) (item
     → LeadsOn page old whole now held (item ∷ rest) → StatesOne page item now new held all → length all ≤ MOST_ITEMS → LeadsOn page old whole new all rest
 on_next page old now new whole rest item held all leads one few = record {
   right = λ last of_each a g.
-      subst (λ statements. AreRight old (each (axiom_judged page) whole) last × StateAll page last whole statements)
+      subst (λ statements. AreRight old (flat_map (axiom_judged page) whole) last × StateAll page last whole statements)
       (sym (append_assoc held one.more (together of_each)) ∙ ap (λ xs. xs ++ together of_each) (sym one.is))
-      (leads.right last (one.more ∷ of_each) (right_parts now new last (axiom_judged page item) (each (axiom_judged page) rest) one.right a)
-      (stated_kept page last new item one.more (right_begins new last (each (axiom_judged page) rest) a) one.states, g));
+      (leads.right last (one.more ∷ of_each) (right_parts now new last (axiom_judged page item) (flat_map (axiom_judged page) rest) one.right a)
+      (stated_kept page last new item one.more (right_begins new last (flat_map (axiom_judged page) rest) a) one.states, g));
   breach = λ after b e.
       let count : length all ≡ length held + length one.more = joined_count held one.more all one.is in
       leads.breach after b (inr (

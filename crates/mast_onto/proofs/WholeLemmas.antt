@@ -1,10 +1,13 @@
 -- Whole documents: an ontology or a first breach, not both, and only one of it.
 use Rattle.std.proofs.Common.{◌≡◌, ◌⊎◌, inl, inr, refl, sym, ap, ◌∙◌, subst, ℕ, zero, ◌+◌, ◌<◌, ◌≤◌, Bool, true, false, List, [], ◌∷◌, ◌++◌, length, append_assoc, Option, arith}
 use Rattle.std.specs.Prelude.{None, Some, Ok, Err, Result, codes, if◌then◌else◌}
+use Rattle.std.specs.List.{flat_map}
 use Rattle.mast_terms.specs.Vocabularies.{Lists, IsVocabulary}
 use Rattle.mast_tbox.specs.declared.axiom.Inclusion.{Inclusion}
 use Rattle.mast_tbox.specs.declared.axiom.Lined.{Lined}
 use Rattle.mast_tbox.specs.declared.tbox.Ontology.{Ontology}
+use Rattle.mast_tbox.specs.Lists.{AreEach}
+use Rattle.mast_tbox.proofs.EachLemmas.{each_one}
 use Rattle.mast_tree.specs.declared.item.Item.{Item}
 use Rattle.mast_tree.specs.declared.shape.ShapeBreach.{ShapeBreach}
 use Rattle.mast_tree.specs.Judged.{after_judged}
@@ -20,16 +23,17 @@ use Rattle.mast_tree.proofs.PrologueLemmas.{has_one_prologue}
 use Rattle.mast_expressions.specs.Pages.{Page, page_of, says, names}
 use Rattle.mast_expressions.proofs.FoundLemmas.{none_parts}
 use Rattle.mast_onto.specs.Axioms.{breach_judged, axiom_judged}
-use Rattle.mast_onto.specs.Lists.{each, AreEach, together}
+use Rattle.mast_onto.specs.Lists.{together}
 use Rattle.mast_onto.specs.Numbered.{inclusions_in, negatives_in, functional_in, numbered, if_inclusion, if_negative, if_functional, next_number}
-use Rattle.mast_onto.specs.Ontologies.{is_iri, front_judged, behind_front, iris_judged, inside_judged, axioms, ontology_judged, IsStated, HasStatements, HasOntology, IsBreachFrom, IsBreachIn, IsInnerBreach, IsOntologyBreach, AreSame, OntologyLaw}
+use Rattle.mast_onto.specs.Ontologies.{is_iri, front_judged, behind_front, iris_judged, inside_judged, axioms, ontology_judged, IsStated, HasStatements, HasOntology, IsBreachIn, IsInnerBreach, IsOntologyBreach, AreSame, OntologyLaw}
 use Rattle.mast_onto.specs.declared.statement.Statement.{Statement}
 use Rattle.mast_onto.specs.declared.statement.Statement.TheVariants as statement
 use Rattle.mast_onto.specs.declared.statements.TheConstants.{MOST_ITEMS}
 use Rattle.mast_onto.specs.inside.Stating.{StateAll}
+use Rattle.mast_onto.proofs.FrontLemmas.{within_none, among_from, from_among}
 use Rattle.mast_onto.proofs.LawLemmas.{RightFrom, RightOr, right_or_from, right_not_from, one_from, split_right, then_vocabulary}
 use Rattle.mast_onto.proofs.NumberedLemmas.{numbered_is, bounded}
-use Rattle.mast_onto.proofs.OneAxiomLemmas.{each_one, stated_one}
+use Rattle.mast_onto.proofs.OneAxiomLemmas.{stated_one}
 
 no_names : (old : Lists) (e : Result (List ℕ) ShapeBreach) → after old (breach_judged e) ≡ old
 no_names old (Ok iri) = refl
@@ -54,19 +58,19 @@ iris_right : (old : Lists) (page : Page) (inside : List Item) → first_breach o
 iris_right old page inside h = record { none = h; then = sym (iris_same old page inside) }
 
 all_right : (old new : Lists) (page : Page) (inside behind : List Item) → first_breach old (iris_judged page inside) ≡ None
-    → AreRight old (each (axiom_judged page) (axioms page inside) ++ after_judged page.doc behind) new
-    → AreRight old ((iris_judged page inside ++ each (axiom_judged page) (axioms page inside)) ++ after_judged page.doc behind) new
+    → AreRight old (flat_map (axiom_judged page) (axioms page inside) ++ after_judged page.doc behind) new
+    → AreRight old ((iris_judged page inside ++ flat_map (axiom_judged page) (axioms page inside)) ++ after_judged page.doc behind) new
 all_right old new page inside behind h g =
-    subst (λ js. AreRight old js new) (sym (append_assoc (iris_judged page inside) (each (axiom_judged page) (axioms page inside)) (after_judged page.doc behind)))
-    (right_parts old old new (iris_judged page inside) (each (axiom_judged page) (axioms page inside) ++ after_judged page.doc behind) (iris_right old page inside h) g)
+    subst (λ js. AreRight old js new) (sym (append_assoc (iris_judged page inside) (flat_map (axiom_judged page) (axioms page inside)) (after_judged page.doc behind)))
+    (right_parts old old new (iris_judged page inside) (flat_map (axiom_judged page) (axioms page inside) ++ after_judged page.doc behind) (iris_right old page inside h) g)
 
 parts_right : (old new : Lists) (page : Page) (inside behind : List Item)
-    → AreRight old ((iris_judged page inside ++ each (axiom_judged page) (axioms page inside)) ++ after_judged page.doc behind) new
-    → (first_breach old (iris_judged page inside) ≡ None) × AreRight old (each (axiom_judged page) (axioms page inside) ++ after_judged page.doc behind) new
+    → AreRight old ((iris_judged page inside ++ flat_map (axiom_judged page) (axioms page inside)) ++ after_judged page.doc behind) new
+    → (first_breach old (iris_judged page inside) ≡ None) × AreRight old (flat_map (axiom_judged page) (axioms page inside) ++ after_judged page.doc behind) new
 parts_right old new page inside behind h =
-    let parts = split_right old new (iris_judged page inside) (each (axiom_judged page) (axioms page inside) ++ after_judged page.doc behind)
-    (subst (λ js. AreRight old js new) (append_assoc (iris_judged page inside) (each (axiom_judged page) (axioms page inside)) (after_judged page.doc behind)) h) in
-    (parts.0.none, subst (λ lists. AreRight lists (each (axiom_judged page) (axioms page inside) ++ after_judged page.doc behind) new) (iris_same old page inside) parts.1)
+    let parts = split_right old new (iris_judged page inside) (flat_map (axiom_judged page) (axioms page inside) ++ after_judged page.doc behind)
+    (subst (λ js. AreRight old js new) (append_assoc (iris_judged page inside) (flat_map (axiom_judged page) (axioms page inside)) (after_judged page.doc behind)) h) in
+    (parts.0.none, subst (λ lists. AreRight lists (flat_map (axiom_judged page) (axioms page inside) ++ after_judged page.doc behind) new) (iris_same old page inside) parts.1)
 
 -- the ontology of statements
 abbrev ontology_of : (lists : Lists) (ss : List (Lined Statement)) → length ss ≤ MOST_ITEMS → Ontology
@@ -108,7 +112,10 @@ by_axioms doc old p i a h e (inl r) =
         functional = refl;
       },
     )
-by_axioms doc old p i a h e (inr b) = inr (b.0, inr (record { prefixes = p; inside = i; after = a; parts = h; first = inr (e, b.1) }))
+by_axioms doc old p i a h e (inr b) =
+    let page = page_of doc p in
+    let among = among_from page old (axioms page i) a [] old [] b.0 (within_none page old) b.1 in
+    inr (b.0, inr (record { prefixes = p; inside = i; after = a; parts = h; first = inr (e, among) }))
 
 by_iris : (doc : Document) (old : Lists) (p : Prefixes) (i a : List Item) → HasParts doc (codes "Ontology") p i a → (first : Option ShapeBreach) → first_breach old (iris_judged (page_of doc p) i) ≡ first → Outcome doc old
 by_iris doc old p i a h None e = by_axioms doc old p i a h e (right_or_from (page_of doc p) (axioms (page_of doc p) i) a old 0 (omega arith))
@@ -144,7 +151,8 @@ from_right doc old o h =
 not_inside : (page : Page) (old new : Lists) (inside behind : List Item) (of_each : List (List (Lined Statement))) (breach : ShapeBreach) → IsVocabulary old
     → first_breach old (iris_judged page inside) ≡ None → RightFrom page old 0 (axioms page inside) behind new of_each → IsBreachIn page old inside behind breach → ⊥
 not_inside page old new inside behind of_each breach v e r (inl b) = some_none (first_breach old (iris_judged page inside)) breach e b
-not_inside page old new inside behind of_each breach v e r (inr b) = right_not_from page (axioms page inside) behind old 0 new of_each breach v r b.1
+not_inside page old new inside behind of_each breach v e r (inr b) =
+    right_not_from page (axioms page inside) behind old 0 new of_each breach v r (from_among page old (axioms page inside) behind breach v b.1)
 
 not_both : (doc : Document) (old : Lists) (o : Ontology) (breach : ShapeBreach) → IsVocabulary old → HasOntology doc old o → IsOntologyBreach doc old breach → ⊥
 not_both doc old o breach v h (inl front) = (one_prologue doc).not_both h.right.prefixes breach h.right.parts.prologue front
@@ -157,7 +165,8 @@ one_inside_breach : (page : Page) (old : Lists) (inside behind : List Item) (b c
 one_inside_breach page old inside behind b c v (inl h) (inl g) = some_one (first_breach old (iris_judged page inside)) b c h g
 one_inside_breach page old inside behind b c v (inl h) (inr g) = absurd (some_none (first_breach old (iris_judged page inside)) b g.0 h)
 one_inside_breach page old inside behind b c v (inr h) (inl g) = absurd (some_none (first_breach old (iris_judged page inside)) c h.0 g)
-one_inside_breach page old inside behind b c v (inr h) (inr g) = one_from page (axioms page inside) behind old 0 b c v h.1 g.1
+one_inside_breach page old inside behind b c v (inr h) (inr g) =
+    one_from page (axioms page inside) behind old 0 b c v (from_among page old (axioms page inside) behind b v h.1) (from_among page old (axioms page inside) behind c v g.1)
 
 one_breach : (doc : Document) (old : Lists) (b c : ShapeBreach) → IsVocabulary old → IsOntologyBreach doc old b → IsOntologyBreach doc old c → b ≡ c
 one_breach doc old b c v (inl x) (inl y) = (one_prologue doc).one_breach b c x y
@@ -171,7 +180,7 @@ one_breach doc old b c v (inr x) (inr y) =
 one_statements : (page : Page) (old new : Lists) (inside behind : List Item) (ss ts : List (List (Lined Statement))) → IsVocabulary old
     → RightFrom page old 0 (axioms page inside) behind new ss → AreEach (IsStated page new) (axioms page inside) ts → ss ≡ ts
 one_statements page old new inside behind ss ts v r h =
-    let last = then_vocabulary old new (each (axiom_judged page) (axioms page inside) ++ after_judged page.doc behind) v r.right in
+    let last = then_vocabulary old new (flat_map (axiom_judged page) (axioms page inside) ++ after_judged page.doc behind) v r.right in
     each_one (IsStated page new) (stated_one new last page) (axioms page inside) ss ts r.states h
 
 one_vocab : (page : Page) (old a b : Lists) (inside behind : List Item) (ss ts : List (List (Lined Statement)))

@@ -1,11 +1,13 @@
 -- Axioms: what is judged of each form, and the axiom that it gives.
 use Rattle.std.specs.Prelude.{◌≡◌, ⊤, ℕ, Bool, true, false, if◌then◌else◌, List, [], ◌∷◌, ◌++◌, Option, Some, None, Result, Ok, Err, codes}
+use Rattle.std.specs.List.{flat_map}
 use Rattle.std.specs.Str.{bytes_eq}
 use Rattle.mast_terms.specs.declared.name.NameKind.{NameKind}
 use Rattle.mast_terms.specs.declared.value.Kind.{Kind}
 use Rattle.mast_terms.specs.declared.value.Kind.TheVariants as value
 use Rattle.mast_terms.specs.Vocabularies.{Lists}
 use Rattle.mast_tbox.specs.declared.expression.Basic.{Basic}
+use Rattle.mast_tbox.specs.Lists.{AreEach}
 use Rattle.mast_tree.specs.declared.item.Item.{Item}
 use Rattle.mast_tree.specs.declared.shape.ShapeBreach.{ShapeBreach}
 use Rattle.mast_tree.specs.declared.shape.ShapeKind.TheVariants.{NotDlLite, Datatype}
@@ -15,7 +17,6 @@ use Rattle.mast_tree.specs.Said.{line}
 use Rattle.mast_expressions.specs.Pages.{Page, says, expanded, rdfs_literal}
 use Rattle.mast_expressions.specs.Judged.{role_judged, attr_judged, left_judged}
 use Rattle.mast_expressions.specs.Given.{IsAttr, IsRole, IsLeft}
-use Rattle.mast_onto.specs.Lists.{each, AreEach}
 use Rattle.mast_onto.specs.Nodes.{AxiomForm, nothing, declared, listed, below, range, wrong, axiom_form}
 use Rattle.mast_onto.specs.Rights.{right_forms, right_judged, IsPart}
 use Rattle.mast_onto.specs.Stated.{inverse_of, subjects_of}
@@ -70,7 +71,7 @@ member_judged page place.Attr item = attr_judged NotDlLite page item
 abbrev pub form_judged : Page → AxiomForm → List Judgement
 form_judged page nothing = []
 form_judged page (declared kind item) = declared_judged kind (expanded NotDlLite page item) (line (says page item))
-form_judged page (listed at relation items) = each (member_judged page at) items
+form_judged page (listed at relation items) = flat_map (member_judged page at) items
 form_judged page (below at turned sub sup) = member_judged page at sub ++ right_judged page sup
 form_judged page (range attr of_type) = attr_judged NotDlLite page attr ++ breach_judged (type_said page of_type)
 form_judged page (wrong kind at) = breaks kind at ∷ []

@@ -1,8 +1,10 @@
 -- Ontologies: what a document states, its items within the limit, and its first breach.
 use Rattle.std.specs.Prelude.{◌≡◌, ◌⊎◌, ◌+◌, ◌<◌, ◌≤◌, ℕ, Bool, true, false, if◌then◌else◌, List, [], ◌∷◌, ◌++◌, length, Some, None, codes}
+use Rattle.std.specs.List.{flat_map}
 use Rattle.mast_terms.specs.Vocabularies.{Lists}
 use Rattle.mast_tbox.specs.declared.axiom.Lined.{Lined}
 use Rattle.mast_tbox.specs.declared.tbox.Ontology.{Ontology}
+use Rattle.mast_tbox.specs.Lists.{AreEach}
 use Rattle.mast_tree.specs.declared.item.Item.{Item}
 use Rattle.mast_tree.specs.declared.shape.ShapeBreach.{ShapeBreach}
 use Rattle.mast_tree.specs.declared.shape.ShapeKind.TheVariants.{Items}
@@ -13,7 +15,7 @@ use Rattle.mast_tree.specs.Said.{Said, name, iri, text, tagged, binding, node, l
 use Rattle.mast_tree.specs.Seen.{Document}
 use Rattle.mast_expressions.specs.Pages.{Page, page_of, says, names}
 use Rattle.mast_onto.specs.Axioms.{breach_judged, axiom_judged, IsAxiom}
-use Rattle.mast_onto.specs.Lists.{each, AreEach, together}
+use Rattle.mast_onto.specs.Lists.{together}
 use Rattle.mast_onto.specs.Nodes.{axiom_form}
 use Rattle.mast_onto.specs.Numbered.{inclusions_in, negatives_in, functional_in, numbered}
 use Rattle.mast_onto.specs.Stated.{stated}
@@ -50,7 +52,7 @@ axioms page inside = behind_front page (behind_front page inside)
 
 -- what is judged inside the main node: the IRIs of the ontology, then each axiom
 abbrev pub inside_judged : Page → List Item → List Judgement
-inside_judged page inside = iris_judged page inside ++ each (axiom_judged page) (axioms page inside)
+inside_judged page inside = iris_judged page inside ++ flat_map (axiom_judged page) (axioms page inside)
 
 -- the same of a document, by its prefixes
 abbrev pub ontology_judged : Document → Judging
@@ -80,21 +82,48 @@ pub record HasOntology (doc : Document) (old : Lists) (ontology : Ontology) : Ty
 abbrev pub items_at : ℕ → ShapeBreach
 items_at line = record { line = line; kind = Items }
 
--- the first breach among axioms before which so many items are stated, or else behind them: in what is judged of the first axiom, or that the count
--- passes the limit with it, or later
-abbrev pub IsBreachFrom : Page → Lists → ℕ → List Item → List Item → ShapeBreach → Type 0
-IsBreachFrom page lists count [] after breach = first_breach lists (after_judged page.doc after) ≡ Some breach
-IsBreachFrom page lists count (item ∷ items) after breach =
-    (first_breach lists (axiom_judged page item) ≡ Some breach)
-    ⊎ ((new : Lists) × (more : List (Lined Statement)) × AreRight lists (axiom_judged page item) new × IsStated page new item more
-    × (((MOST_ITEMS < count + length more) × (breach ≡ items_at (line (says page item))))
-    ⊎ ((count + length more ≤ MOST_ITEMS) × IsBreachFrom page new (count + length more) items after breach)))
+-- nothing is wrong with axioms, which state these items within the limit; the names are then these
+pub record AreWithin (page : Page) (old : Lists) (items : List Item) (now : Lists) (of_each : List (List (Lined Statement))) : Type 0 where
+  pub right : AreRight old (flat_map (axiom_judged page) items) now
+  pub states : AreEach (IsStated page now) items of_each
+  pub few : length (together of_each) ≤ MOST_ITEMS
 
--- the first breach inside the main node or behind it: in the IRIs of the ontology, or from the first axiom on
+-- nothing is wrong with an axiom, and behind these items what it states passes the limit
+pub record PassesHere (page : Page) (item : Item) (now : Lists) (held : List (Lined Statement)) (breach : ShapeBreach) : Type 0 where
+  pub new : Lists
+  pub more : List (Lined Statement)
+  pub right : AreRight now (axiom_judged page item) new
+  pub states : IsStated page new item more
+  pub passes : MOST_ITEMS < length (held ++ more)
+  pub is : breach ≡ items_at (line (says page item))
+
+-- the axioms before this one are within the limit, and something is wrong with it, or the limit is passed with it
+pub record IsAtAxiom (page : Page) (old : Lists) (items : List Item) (breach : ShapeBreach) : Type 0 where
+  pub before : List Item
+  pub item : Item
+  pub behind : List Item
+  pub is : items ≡ before ++ item ∷ behind
+  pub now : Lists
+  pub of_each : List (List (Lined Statement))
+  pub within : AreWithin page old before now of_each
+  pub breaks : (first_breach now (axiom_judged page item) ≡ Some breach) ⊎ PassesHere page item now (together of_each) breach
+
+-- all axioms are within the limit, and something follows the main node
+pub record IsBehindAll (page : Page) (old : Lists) (items after : List Item) (breach : ShapeBreach) : Type 0 where
+  pub now : Lists
+  pub of_each : List (List (Lined Statement))
+  pub within : AreWithin page old items now of_each
+  pub breaks : first_breach now (after_judged page.doc after) ≡ Some breach
+
+-- the first breach of axioms and of what follows the main node
+abbrev pub IsBreachAmong : Page → Lists → List Item → List Item → ShapeBreach → Type 0
+IsBreachAmong page old items after breach = IsAtAxiom page old items breach ⊎ IsBehindAll page old items after breach
+
+-- the first breach inside the main node or behind it: in the IRIs of the ontology, or else of the axioms and of what follows
 abbrev pub IsBreachIn : Page → Lists → List Item → List Item → ShapeBreach → Type 0
 IsBreachIn page old inside after breach =
     (first_breach old (iris_judged page inside) ≡ Some breach)
-    ⊎ ((first_breach old (iris_judged page inside) ≡ None) × IsBreachFrom page old 0 (axioms page inside) after breach)
+    ⊎ ((first_breach old (iris_judged page inside) ≡ None) × IsBreachAmong page old (axioms page inside) after breach)
 
 -- the document's parts are found, and the breach is the first behind its prologue
 pub record IsInnerBreach (doc : Document) (old : Lists) (breach : ShapeBreach) : Type 0 where

@@ -1,5 +1,6 @@
 -- Right sides: the parts of one, what is judged of them, and what they give.
 use Rattle.std.specs.Prelude.{◌≡◌, ⊤, ℕ, zero, suc, Bool, false, if◌then◌else◌, List, [], ◌∷◌, ◌++◌, Option, Some, None, Result, Ok, Err, codes}
+use Rattle.std.specs.List.{flat_map}
 use Rattle.std.specs.Str.{bytes_eq}
 use Rattle.mast_terms.specs.Vocabularies.{Lists}
 use Rattle.mast_tree.specs.declared.item.Item.{Item}
@@ -10,7 +11,6 @@ use Rattle.mast_tree.specs.Said.{Said, node}
 use Rattle.mast_expressions.specs.Pages.{Page, says, names, owl_thing}
 use Rattle.mast_expressions.specs.Judged.{class_judged, role_judged, left_judged}
 use Rattle.mast_expressions.specs.Given.{IsClassIn, IsRole, IsLeft}
-use Rattle.mast_onto.specs.Lists.{each}
 use Rattle.mast_tree.specs.declared.item.TheConstants.{MOST_OPEN}
 use Rattle.mast_onto.specs.declared.statement.Part.{Part}
 use Rattle.mast_onto.specs.declared.statement.Part.TheVariants as part
@@ -60,7 +60,7 @@ part_form page item = part_said page item (says page item)
 
 -- `ObjectIntersectionOf` of two or more right sides, each of which has these parts
 abbrev pub both_forms : (Item → List PartForm) → ℕ → List Item → List PartForm
-both_forms forms at (first ∷ second ∷ more) = each forms (first ∷ second ∷ more)
+both_forms forms at (first ∷ second ∷ more) = flat_map forms (first ∷ second ∷ more)
 both_forms forms at _ = wrong at ∷ []
 
 -- an intersection at a line, with the items inside it
@@ -92,7 +92,7 @@ part_judged page (wrong at) = breaks Shape at ∷ []
 
 -- Right: Left; owl:Thing; `ObjectSomeValuesFrom(Role Class)`; `ObjectComplementOf(Left)`; `ObjectIntersectionOf` of two or more Right
 abbrev pub right_judged : Page → Item → List Judgement
-right_judged page item = each (part_judged page) (right_forms page item)
+right_judged page item = flat_map (part_judged page) (right_forms page item)
 
 -- the part that a form gives
 abbrev pub IsPart : Page → Lists → PartForm → Part → Type 0

@@ -6,7 +6,7 @@ ghost use Rattle.mast_tree.specs.Growing.{Begins};
 ghost use Rattle.mast_tree.specs.Seen.{seen};
 ghost use Rattle.mast_expressions.specs.Pages.{says};
 ghost use Rattle.mast_expressions.specs.Reads.{page};
-ghost use Rattle.mast_onto.specs.Known.{AreKnown};
+ghost use Rattle.mast_onto.specs.Known.{HasNames};
 ghost use Rattle.mast_onto.specs.Ontologies as spec;
 ghost use Rattle.mast_onto.specs.inside.Stating.{ReadsFront, ReadsStated, ReadsAxioms, ReadsInside};
 
@@ -113,7 +113,7 @@ pub fn read_ontology(
     ensures exact { Answers result (spec.HasOntology (seen doc.now) vocab) (spec.IsOntologyBreach (seen doc.now) vocab) }
     ensures begins { IfOk result (λ ontology. Begins ontology.vocab vocab) }
     ensures constants { IfOk result (λ ontology. ontology.vocab.constants ≡ vocab.constants) }
-    ensures names { IfOk result (λ ontology. AreKnown ontology.vocab ontology.tbox) }
+    ensures names { IfOk result HasNames }
 {
     read_whole(alloc, doc, vocab)
 }

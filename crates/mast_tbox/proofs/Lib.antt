@@ -1,5 +1,6 @@
 -- The lemmas, by topic.
 pub mod MemberLemmas
+pub mod EachLemmas
 pub mod EqualityLemmas
 pub mod HashLemmas
 pub mod WorkLemmas

@@ -4,9 +4,11 @@ pub mod Lists
 pub mod Numbers
 pub mod Hashes
 pub mod Names
+pub mod Vocabularies
 pub mod Arguments
 pub mod Closure
 pub mod Properties
 pub mod Restrictions
+pub mod ConstraintForms
 pub mod Laws
 pub mod inside

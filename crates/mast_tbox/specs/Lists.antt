@@ -1,10 +1,17 @@
--- Lists: each element once, what is reached by steps, and the items of lines.
+-- Lists: each element once, what is reached by steps, the items of lines, and lists element by element.
 use Rattle.std.specs.Prelude.{List, [], ◌∷◌, map, Bool, if◌then◌else◌}
 use Rattle.mast_tbox.specs.declared.axiom.Lined.{Lined}
 
 -- the items of lines
 abbrev pub items : {X : Type 0} → List (Lined X) → List X
 items ls = map (λ l. l.item) ls
+
+-- the elements of two lists belong to each other, in order
+abbrev pub AreEach : {X Y : Type 0} → (X → Y → Type 0) → List X → List Y → Type 0
+AreEach R [] [] = Unit {0}
+AreEach R [] (y ∷ ys) = ⊥
+AreEach R (x ∷ xs) [] = ⊥
+AreEach R (x ∷ xs) (y ∷ ys) = R x y × AreEach R xs ys
 
 -- y is reached from x by a list of steps, which may be empty
 pub data Reaches {X : Type 0} (Step : X → X → Type 0) : X → X → Type 0 where

@@ -1,10 +1,12 @@
--- Names in range: those that documents may use, and the auxiliary roles of a TBox.
+-- Names of axioms and constraints, and their ranges: those that documents may use, and the auxiliary roles of a TBox.
 use Rattle.std.specs.Prelude.{◌≡◌, ℕ, ◌+◌, ◌<◌, List, Option, Some, None, Bool, true, Contains, ◌⊎◌}
+use Rattle.std.specs.List.{AllByRecursion}
 use Rattle.mast_terms.specs.declared.name.Name.{Name}
 use Rattle.mast_terms.specs.declared.name.NameKind.{NameKind}
 use Rattle.mast_terms.specs.declared.name.NameKind.TheVariants as kinds
 use Rattle.mast_cq.specs.declared.atom.Atom.{Atom}
 use Rattle.mast_cq.specs.declared.atom.Atom.TheVariants.{Class, Role, Attr}
+use Rattle.mast_cq.specs.Origins.{Named}
 use Rattle.mast_tbox.specs.declared.expression.RoleExpr.{RoleExpr}
 use Rattle.mast_tbox.specs.declared.expression.RoleExpr.TheVariants.{Direct, Inverse}
 use Rattle.mast_tbox.specs.declared.expression.Basic.{Basic}
@@ -13,6 +15,12 @@ use Rattle.mast_tbox.specs.declared.expression.Prop.{Prop}
 use Rattle.mast_tbox.specs.declared.expression.Prop.TheVariants.{Role as PRole, Attr as PAttr}
 use Rattle.mast_tbox.specs.declared.axiom.Inclusion.{Inclusion}
 use Rattle.mast_tbox.specs.declared.axiom.Inclusion.TheVariants.{Class as IClass, Exists, HasValue, Role as IRole, Attr as IAttr, Range}
+use Rattle.mast_tbox.specs.declared.axiom.Negative.{Negative}
+use Rattle.mast_tbox.specs.declared.axiom.Negative.TheVariants.{Concepts, Roles, Attrs, Irreflexive}
+use Rattle.mast_tbox.specs.declared.constraint.Constraint.{Constraint}
+use Rattle.mast_tbox.specs.declared.constraint.Constraint.TheVariants.{Functional, Identify, Deny}
+use Rattle.mast_tbox.specs.declared.constraint.Step.{Step}
+use Rattle.mast_tbox.specs.declared.constraint.Step.TheVariants as step
 use Rattle.mast_tbox.specs.Inclusions.{first_auxiliary, auxiliary}
 
 -- P holds of the kind and the number of the expression's name
@@ -44,6 +52,25 @@ InclusionNamed P (HasValue b u k) = BasicNamed P b × P kinds.Attr u.0
 InclusionNamed P (IRole r s) = RoleNamed P r × RoleNamed P s
 InclusionNamed P (IAttr u v) = P kinds.Attr u.0 × P kinds.Attr v.0
 InclusionNamed P (Range u kind) = P kinds.Attr u.0
+
+-- it does of the names of what is disjoint or irreflexive
+abbrev pub NegativeNamed : (NameKind → ℕ → Type 0) → Negative → Type 0
+NegativeNamed P (Concepts b c) = BasicNamed P b × BasicNamed P c
+NegativeNamed P (Roles r s) = RoleNamed P r × RoleNamed P s
+NegativeNamed P (Attrs u v) = P kinds.Attr u.0 × P kinds.Attr v.0
+NegativeNamed P (Irreflexive p) = P kinds.Role p.0
+
+-- it does of the name of the step
+abbrev pub StepNamed : (NameKind → ℕ → Type 0) → Step → Type 0
+StepNamed P (step.Role r) = RoleNamed P r
+StepNamed P (step.Test a) = P kinds.Class a.0
+StepNamed P (step.Attr u) = P kinds.Attr u.0
+
+-- it does of the names of the constraint
+abbrev pub ConstraintNamed : (NameKind → ℕ → Type 0) → Constraint → Type 0
+ConstraintNamed P (Functional p) = PropNamed P p
+ConstraintNamed P (Identify concept paths) = BasicNamed P concept × AllByRecursion (AllByRecursion (StepNamed P)) paths
+ConstraintNamed P (Deny atoms) = AllByRecursion (Named P) atoms
 
 -- it does of the names of all inclusions
 abbrev pub AreNamed : (NameKind → ℕ → Type 0) → List Inclusion → Type 0

@@ -3,6 +3,9 @@ use crate::{Basic, Lined, Prop, RoleExpr};
 use mast_cq::Atom;
 use mast_terms::{List, Name, Vocabulary};
 
+/// The greatest number of atoms of a denial, and of an identification's violation query.
+pub const MOST_ATOMS: usize = 24;
+
 /// A step of a path.
 #[derive(Clone, Copy, Debug, PartialEq, Eq)]
 pub enum Step {

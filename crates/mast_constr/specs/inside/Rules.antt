@@ -12,6 +12,7 @@ use Rattle.mast_tbox.specs.declared.constraint.Constraint.{Constraint}
 use Rattle.mast_tbox.specs.declared.constraint.Step.{Step}
 use Rattle.mast_tbox.specs.declared.expression.Basic.{Basic}
 use Rattle.mast_tbox.specs.declared.expression.Prop.{Prop}
+use Rattle.mast_tbox.specs.Lists.{AreEach}
 use Rattle.mast_tree.specs.declared.item.Item.{Item}
 use Rattle.mast_tree.specs.declared.shape.ShapeBreach.{ShapeBreach}
 use Rattle.mast_tree.specs.declared.shape.ShapeKind.TheVariants.{Shape}
@@ -24,10 +25,10 @@ use Rattle.mast_expressions.specs.Pages.{Page, says}
 use Rattle.mast_expressions.specs.Reads.{page}
 use Rattle.mast_constr.specs.declared.reader.Reader.{Reader}
 use Rattle.mast_constr.specs.declared.variables.Sort.{Sort}
+use Rattle.mast_constr.specs.inside.Atoms as a
 use Rattle.mast_constr.specs.Denials as d
 use Rattle.mast_constr.specs.Denials.{Dates}
 use Rattle.mast_constr.specs.Items as i
-use Rattle.mast_constr.specs.Lists.{AreEach}
 use Rattle.mast_constr.specs.Paths as p
 use Rattle.mast_constr.specs.Variables.{Variables, variable, sort_of, placed, sort_judged, variable_judged, IsVariable}
 
@@ -107,7 +108,8 @@ ReadsConceptPaths page left inside old new result =
 -- a left side and paths
 abbrev pub ReadsIdentified : Page → ℕ → Item → List Item → Lists → Lists → Identified → Type 0
 ReadsIdentified page at left inside old new result =
-    Judges old (p.identified_judged (p.are_many (p.all_steps page inside)) page at left inside) new (λ r. p.AreIdentified new page (left ∷ inside) r.0 r.1) result
+    Judges old (p.identified_judged (p.are_many (p.all_steps page inside)) page at left inside) new
+    (λ r. p.AreIdentified new page (left ∷ inside) r.0 r.1) result
 
 -- `Identify(..)`
 abbrev pub ReadsIdentify : Page → ℕ → List Item → Lists → Lists → Identified → Type 0
@@ -121,12 +123,14 @@ IsFound known x (Some found) = (sort_of x known ≡ Some found.1) × (slice_get 
 
 -- a place of this sort, of the variable of a number that first stands in a place of that sort
 abbrev pub IsSame : Sort → Sort → ℕ → ℕ → Result Arg (Stop ShapeBreach) → Type 0
-IsSame sort first number at result = (lists : Lists) → Judges lists (sort_judged sort (Some first) at) lists (λ x. (sort ≡ first) × (x ≡ arg.Var number)) result
+IsSame sort first number at result =
+    (lists : Lists) → Judges lists (sort_judged sort (Some first) at) lists (λ x. (sort ≡ first) × (x ≡ arg.Var number)) result
 
 -- a variable in a place of a sort, if one was found, at a line
 abbrev pub ReadsVariable : Sort → Option (List ℕ) → ℕ → Variables → Variables → Result Arg (Stop ShapeBreach) → Type 0
 ReadsVariable sort found at before after result =
-    (lists : Lists) → Judges lists (variable_judged sort before found at) lists (λ x. (after ≡ placed sort found before) × IsVariable sort after found x) result
+    (lists : Lists) → Judges lists (variable_judged sort before found at) lists
+    (λ x. (after ≡ placed sort found before) × IsVariable sort after found x) result
 
 -- an argument that is to be a variable
 abbrev pub ReadsArgument : Sort → Page → Item → Variables → Variables → Result Arg (Stop ShapeBreach) → Type 0
@@ -143,7 +147,8 @@ GivesConstant dates page item new x = (value : Value) × (constant_of dates page
 -- the constant that an item says, at a line
 abbrev pub ReadsSaidConstant : Page → Item → ℕ → Lists → Lists → Result Arg (Stop ShapeBreach) → Type 0
 ReadsSaidConstant page item at old new result =
-    (dates : Dates) → AreDates dates → Judges old (d.constant_judged (constant_of dates page.doc (says page item)) at) new (GivesConstant dates page item new) result
+    (dates : Dates) → AreDates dates → Judges old (d.constant_judged (constant_of dates page.doc (says page item)) at) new
+    (GivesConstant dates page item new) result
 
 -- a value
 abbrev pub ReadsValue : Page → Item → Variables → Variables → Lists → Lists → Result Arg (Stop ShapeBreach) → Type 0
@@ -161,12 +166,13 @@ ReadsPair page from to before after result =
 abbrev pub ReadsFiller : Page → Item → Item → Variables → Variables → Lists → Lists → Result (Arg × Arg) (Stop ShapeBreach) → Type 0
 ReadsFiller page from value before after old new result =
     (dates : Dates) → AreDates dates → Judges old (d.filler_judged dates page before from value) new
-    (λ xy. (after ≡ d.with_value page (d.with_object page before from) value) × d.IsObject page after from xy.0 × d.IsValue dates new page after value xy.1) result
+    (λ xy. (after ≡ d.with_value page (d.with_object page before from) value)
+    × d.IsObject page after from xy.0 × d.IsValue dates new page after value xy.1) result
 
 -- the inside of an atom's node with a word: the variables once it stood, and the atom
 abbrev pub GivesAtom : List ℕ → Dates → Page → List Item → Variables → Variables → Lists → Atom → Type 0
 GivesAtom word dates page inside before after new g =
-    (after ≡ d.with_arguments word page before inside) × (d.atom_word g ≡ word) × d.IsAtomOf dates new page after inside g
+    (after ≡ a.with_arguments word page before inside) × (d.atom_word g ≡ word) × d.IsAtomOf dates new page after inside g
 
 -- a class and an object
 abbrev pub ReadsClassParts : Page → Item → Item → Variables → Variables → Lists → Lists → Result Atom (Stop ShapeBreach) → Type 0
@@ -208,29 +214,31 @@ ReadsAttrAtom page number at inside before after old new result =
 abbrev pub ReadsAtom : Page → ℕ → Item → Variables → Variables → Lists → Lists → Result Atom (Stop ShapeBreach) → Type 0
 ReadsAtom page number item before after old new result =
     (dates : Dates) → AreDates dates → Judges old (d.atom_judged dates page number before item) new
-    (λ g. (after ≡ d.with_atom page before (says page item)) × d.IsAtom dates new page after item g) result
+    (λ g. (after ≡ a.with_atom page before (says page item)) × d.IsAtom dates new page after item g) result
 
 -- the atom of a number, behind those that stand before
-abbrev pub PutsAtom : Page → ℕ → Item → Variables → Variables → Lists → Lists → List Atom → List Atom → Result (Unit {0}) (Stop ShapeBreach) → Type 0
+abbrev pub PutsAtom : Page → ℕ → Item → Variables → Variables → Lists → Lists → List Atom → List Atom
+    → Result (Unit {0}) (Stop ShapeBreach) → Type 0
 PutsAtom page number item before after old new some all result =
     (dates : Dates) → AreDates dates → Judges old (d.atom_judged dates page number before item) new
-    (λ u. (after ≡ d.with_atom page before (says page item)) × Puts some all (d.IsAtom dates new page after item)) result
+    (λ u. (after ≡ a.with_atom page before (says page item)) × Puts some all (d.IsAtom dates new page after item)) result
 
 -- the atoms that were put behind others, by the variables of the denial
 abbrev pub GivesAtoms : Dates → Page → List Item → Variables → Variables → Lists → List Atom → List Atom → Type 0
 GivesAtoms dates page inside before after new some all =
-    (after ≡ d.with_atoms page before inside) × Adds some all (AreEach (d.IsAtom dates new page after) inside)
+    (after ≡ a.with_atoms page before inside) × Adds some all (AreEach (d.IsAtom dates new page after) inside)
 
 -- atoms from a number on, behind those that stand before
-abbrev pub ReadsAtoms : Page → ℕ → List Item → Variables → Variables → Lists → Lists → List Atom → List Atom → Result (Unit {0}) (Stop ShapeBreach) → Type 0
+abbrev pub ReadsAtoms : Page → ℕ → List Item → Variables → Variables → Lists → Lists → List Atom → List Atom
+    → Result (Unit {0}) (Stop ShapeBreach) → Type 0
 ReadsAtoms page number inside before after old new some all result =
-    (dates : Dates) → AreDates dates → Judges old (d.atoms_judged dates page number before inside) new
+    (dates : Dates) → AreDates dates → Judges old (a.atoms_from dates page number before inside) new
     (λ u. GivesAtoms dates page inside before after new some all) result
 
 -- all atoms of a denial
 abbrev pub ReadsAll : Page → List Item → Lists → Lists → Result (List Atom) (Stop ShapeBreach) → Type 0
 ReadsAll page inside old new result =
-    (dates : Dates) → AreDates dates → Judges old (d.atoms_judged dates page 0 [] inside) new (d.AreDenied dates new page inside) result
+    (dates : Dates) → AreDates dates → Judges old (a.atoms_from dates page 0 [] inside) new (d.AreDenied dates new page inside) result
 
 -- `Deny(..)`
 abbrev pub ReadsDeny : Page → ℕ → List Item → Lists → Lists → Result (List Atom) (Stop ShapeBreach) → Type 0
@@ -256,7 +264,8 @@ ReadsConstraint page item old new result =
     (dates : Dates) → AreDates dates → Judges old (i.constraint_judged dates page item) new (i.IsConstraint dates new page item) result
 
 -- a constraint with its line, behind those that stand before
-abbrev pub PutsConstraint : Page → Item → Lists → Lists → List (Lined Constraint) → List (Lined Constraint) → Result (Unit {0}) (Stop ShapeBreach) → Type 0
+abbrev pub PutsConstraint : Page → Item → Lists → Lists → List (Lined Constraint) → List (Lined Constraint)
+    → Result (Unit {0}) (Stop ShapeBreach) → Type 0
 PutsConstraint page item old new before after result =
     (dates : Dates) → AreDates dates → Judges old (i.constraint_judged dates page item) new (λ u. Puts before after (i.IsLined dates new page item)) result
 
@@ -264,7 +273,8 @@ PutsConstraint page item old new before after result =
 abbrev pub SoFar : Page → List Item → List Item → Lists → Lists → List (Lined Constraint) → Type 0
 SoFar page all rest old now list = (dates : Dates) → AreDates dates → (done : List Judgement)
     × (i.constraints_judged dates page all ≡ done ++ i.constraints_judged dates page rest) × AreRight old done now
-    × ((final : Lists) (more : List (Lined Constraint)) → Begins final now → i.AreConstraints dates final page rest more → i.AreConstraints dates final page all (list ++ more))
+    × ((final : Lists) (more : List (Lined Constraint)) → Begins final now → i.AreConstraints dates final page rest more
+    → i.AreConstraints dates final page all (list ++ more))
 
 -- constraints
 abbrev pub ReadsItems : Page → List Item → Lists → Lists → Result (List (Lined Constraint)) (Stop ShapeBreach) → Type 0

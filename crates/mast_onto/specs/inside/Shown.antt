@@ -1,9 +1,9 @@
 -- Forms as they are read, which lend their items.
 use Rattle.std.specs.Prelude.{◌≡◌, ℕ, List, ◌++◌, map, Option, Some, None}
+use Rattle.std.specs.List.{flat_map}
 use Rattle.std.specs.Borrow.{Bor}
 use Rattle.mast_tree.specs.declared.item.Item.{Item}
 use Rattle.mast_expressions.specs.Pages.{Page}
-use Rattle.mast_onto.specs.Lists.{each}
 use Rattle.mast_onto.specs.Rights.{PartForm, thing, left, filled, complement, wrong, both_forms, forms_within}
 use Rattle.mast_onto.specs.Nodes as node
 use Rattle.mast_onto.specs.declared.node.AxiomForm.{AxiomForm as LentAxiom}
@@ -38,7 +38,7 @@ both_within depth page at items = both_forms (forms_within depth page) at items
 
 -- the parts of right sides in which at most so many stand in one another
 abbrev pub each_within : ℕ → Page → List Item → List PartForm
-each_within depth page items = each (forms_within depth page) items
+each_within depth page items = flat_map (forms_within depth page) items
 
 -- an intersection, with the items that it lends
 abbrev pub shown_intersection : Option (ℕ × Bor (List Item)) → Option (ℕ × List Item)

@@ -1,10 +1,12 @@
 -- What axioms are read to: what they state, within the limit, or the first breach.
-use Rattle.std.specs.Prelude.{◌≡◌, ◌⊎◌, ◌<◌, ◌+◌, ℕ, List, [], ◌++◌, length, Some, None, Result}
+use Rattle.std.specs.Prelude.{◌≡◌, ◌⊎◌, ◌<◌, ◌≤◌, ◌+◌, ℕ, List, [], ◌∷◌, ◌++◌, length, Some, None, Result}
+use Rattle.std.specs.List.{flat_map}
 use Rattle.std.specs.Borrow.{Bor}
 use Rattle.mast_terms.specs.Answers.{Answers}
 use Rattle.mast_terms.specs.declared.memory.Stop.{Stop}
 use Rattle.mast_terms.specs.Vocabularies.{Lists}
 use Rattle.mast_tbox.specs.declared.axiom.Lined.{Lined}
+use Rattle.mast_tbox.specs.Lists.{AreEach}
 use Rattle.mast_tree.specs.declared.item.Item.{Item}
 use Rattle.mast_tree.specs.declared.shape.ShapeBreach.{ShapeBreach}
 use Rattle.mast_tree.specs.Judged.{after_judged}
@@ -12,8 +14,8 @@ use Rattle.mast_tree.specs.Judgements.{first_breach, AreRight, Judges}
 use Rattle.mast_tree.specs.Said.{line}
 use Rattle.mast_expressions.specs.Pages.{Page, says}
 use Rattle.mast_onto.specs.Axioms.{axiom_judged}
-use Rattle.mast_onto.specs.Lists.{each, AreEach, together}
-use Rattle.mast_onto.specs.Ontologies.{front_judged, behind_front, axioms, inside_judged, IsStated, IsBreachFrom, IsBreachIn, items_at}
+use Rattle.mast_onto.specs.Lists.{together}
+use Rattle.mast_onto.specs.Ontologies.{front_judged, behind_front, axioms, inside_judged, IsStated, PassesHere, IsBreachIn, items_at}
 use Rattle.mast_onto.specs.declared.statement.Statement.{Statement}
 use Rattle.mast_onto.specs.declared.statements.Statements.{Statements}
 use Rattle.mast_onto.specs.declared.statements.TheConstants.{MOST_ITEMS}
@@ -29,14 +31,14 @@ pub record StatesOne (page : Page) (item : Item) (old new : Lists) (held all : L
   pub states : IsStated page new item more
   pub is : all ≡ held ++ more
 
--- something is wrong with the axiom, or what it states passes the limit
-pub record PassesHere (page : Page) (item : Item) (old : Lists) (held : List (Lined Statement)) (breach : ShapeBreach) : Type 0 where
-  pub new : Lists
-  pub more : List (Lined Statement)
-  pub right : AreRight old (axiom_judged page item) new
-  pub states : IsStated page new item more
-  pub passes : MOST_ITEMS < length (held ++ more)
-  pub is : breach ≡ items_at (line (says page item))
+-- as it is read: the first breach from an axiom on, before which so many items are stated
+abbrev pub IsBreachFrom : Page → Lists → ℕ → List Item → List Item → ShapeBreach → Type 0
+IsBreachFrom page lists count [] after breach = first_breach lists (after_judged page.doc after) ≡ Some breach
+IsBreachFrom page lists count (item ∷ items) after breach =
+    (first_breach lists (axiom_judged page item) ≡ Some breach)
+    ⊎ ((new : Lists) × (more : List (Lined Statement)) × AreRight lists (axiom_judged page item) new × IsStated page new item more
+    × (((MOST_ITEMS < count + length more) × (breach ≡ items_at (line (says page item))))
+    ⊎ ((count + length more ≤ MOST_ITEMS) × IsBreachFrom page new (count + length more) items after breach)))
 
 -- an axiom was read
 abbrev pub ReadsStated : {T : Type 0} → Page → Item → Lists → Lists → List (Lined Statement) → List (Lined Statement) → Result T (Stop ShapeBreach) → Type 0
@@ -49,7 +51,7 @@ StateAll page lists items statements = (of_each : List (List (Lined Statement)))
 
 -- axioms were read with which nothing is wrong; a breach of what follows the main node is then the first
 pub record AllStated (page : Page) (items : List Item) (old new : Lists) (statements : List (Lined Statement)) : Type 0 where
-  pub right : AreRight old (each (axiom_judged page) items) new
+  pub right : AreRight old (flat_map (axiom_judged page) items) new
   pub states : StateAll page new items statements
   pub behind : (after : List Item) (breach : ShapeBreach) → first_breach new (after_judged page.doc after) ≡ Some breach → IsBreachFrom page old 0 items after breach
 
@@ -60,8 +62,8 @@ ReadsAxioms page items old new result =
 
 -- axioms are read one by one: what is read of the rest makes, with what was read, the whole; and the first breach of the rest is that of the whole
 pub record LeadsOn (page : Page) (old : Lists) (whole : List Item) (now : Lists) (held : List (Lined Statement)) (rest : List Item) : Type 0 where
-  pub right : (new : Lists) (of_each : List (List (Lined Statement))) → AreRight now (each (axiom_judged page) rest) new → AreEach (IsStated page new) rest of_each
-      → AreRight old (each (axiom_judged page) whole) new × StateAll page new whole (held ++ together of_each)
+  pub right : (new : Lists) (of_each : List (List (Lined Statement))) → AreRight now (flat_map (axiom_judged page) rest) new → AreEach (IsStated page new) rest of_each
+      → AreRight old (flat_map (axiom_judged page) whole) new × StateAll page new whole (held ++ together of_each)
   pub breach : (after : List Item) (breach : ShapeBreach) → IsBreachFrom page now (length held) rest after breach → IsBreachFrom page old 0 whole after breach
 
 -- the inside of a main node was read, and nothing follows that node

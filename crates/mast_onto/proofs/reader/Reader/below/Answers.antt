@@ -1,10 +1,10 @@
 -- What stops the reading of a side stops that of both.
+use Rattle.mast_tbox.specs.Lists.{AreEach}
 use Rattle.mast_tree.proofs.GrowingLemmas.{right_begins}
 use Rattle.mast_tree.proofs.JudgementLemmas.{right_parts}
 use Rattle.mast_expressions.specs.Reads.{page}
 use Rattle.mast_expressions.proofs.ReadLemmas.{handed, stops_first, stops_second}
 use Rattle.mast_onto.specs.Axioms.{member_judged, form_judged, IsSubject, IsAxiom}
-use Rattle.mast_onto.specs.Lists.{AreEach}
 use Rattle.mast_onto.specs.Nodes.{below}
 use Rattle.mast_onto.specs.Rights.{right_forms, right_judged, IsPart}
 use Rattle.mast_onto.specs.declared.statement.Axiom.{Axiom}

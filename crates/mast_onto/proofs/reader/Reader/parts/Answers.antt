@@ -1,10 +1,11 @@
 -- Each form that is read leads on, and what stops the reading of one stops that of all.
 use Rattle.std.proofs.Common.{◌≡◌, ◌+◌, [], ◌∷◌, List, map, drop, refl, ap, subst, sym}
+use Rattle.std.specs.List.{flat_map}
 use Rattle.std.proofs.lemmas.List.{drop_all}
 use Rattle.mast_terms.proofs.PlaceLemmas.{drop-next}
+use Rattle.mast_tbox.specs.Lists.{AreEach}
 use Rattle.mast_expressions.specs.Reads.{page}
 use Rattle.mast_expressions.proofs.ReadLemmas.{handed}
-use Rattle.mast_onto.specs.Lists.{each, AreEach}
 use Rattle.mast_onto.specs.Rights.{part_judged, IsPart}
 use Rattle.mast_onto.specs.inside.Reads.{Leads}
 use Rattle.mast_onto.specs.inside.Shown.{shown_part}
@@ -24,7 +25,7 @@ returns-in_err-part c =
     let rest = map shown_part (drop (l.form-index + 1) c.args.forms.now) in
     let next : map shown_part (drop l.form-index c.args.forms.now) ≡ form ∷ rest = ap (map shown_part) (drop-next c.args.forms.now c.args.forms.now l.form-index c.form-item.result refl c.loop-form-test.true c.form-item.is) in
     let Given : List Part → Type 0 = AreEach (Is c.part.new.vocab) all in
-    handed c.args.vocab.now c.part.new.vocab (each J all) Given c.from_residual.result c.in_err-part.field-0.0 c.from_residual.ensures.1
+    handed c.args.vocab.now c.part.new.vocab (flat_map J all) Given c.from_residual.result c.in_err-part.field-0.0 c.from_residual.ensures.1
     (leads_stop J Is c.args.vocab.now l.vocab c.part.new.vocab c.part.new.vocab all rest form l.parts
     (Is c.part.new.vocab form) Given c.in_err-part.field-0.0
     (subst (λ xs. Leads J Is c.args.vocab.now all l.vocab xs l.parts) next l.invariant) c.in_err-part.ensures)
