@@ -9,11 +9,11 @@ use Rattle.mast_cq.specs.Meanings.{Fact}
 use Rattle.mast_mapping.specs.Split.{split_maps}
 use Rattle.mast_terms.specs.declared.term.Term.{Term}
 use Rattle.mast_terms.specs.Vocabularies.{Lists}
-use Rattle.mast_write.specs.FactLines.{fact_line}
+use Rattle.mast_write.specs.FactLines.{fact_line, printed}
 use Rattle.mast_write.specs.LineText.{IsTextOf}
 use Rattle.mast_write.proofs.SetLemmas.{some_text}
 use Rattle.mast_write.proofs.TextLemmas.{text_of_same}
-use Rattle.mast_cli.specs.command.Facts.{Read, IsLineOfFact, printed}
+use Rattle.mast_cli.specs.command.Facts.{Read, IsLineOfFact}
 use Rattle.mast_cli.specs.inside.FactLines.{IsLineOf}
 use Rattle.mast_cli.proofs.MapLemmas.{some_written, written_none, written_text}
 

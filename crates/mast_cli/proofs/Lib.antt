@@ -10,8 +10,6 @@ mod LoadingLemmas
 mod MapLemmas
 mod MappingsLemmas
 mod OutcomeLemmas
-mod PlaceLemmas
-mod PlanLemmas
 mod SizeLemmas
 mod StageLemmas
 mod TablesLemmas

@@ -3,8 +3,7 @@ use Rattle.std.proofs.Common.{◌≡◌, ◌⊎◌, ◌+◌, ◌<◌, inl, inr, 
 use Rattle.std.proofs.lemmas.List.{drop_more}
 use Rattle.std.specs.Prelude.{◌↔◌, None}
 use Rattle.std.specs.List.{AllByRecursion, filter_map}
-use Rattle.mast_canon.specs.Choices.{Meets, chosen}
-use Rattle.mast_canon.specs.Fitting.{Fits}
+use Rattle.mast_canon.specs.Choices.{IsChoice, Meets, chosen}
 use Rattle.mast_cq.proofs.ListLemmas.{in_append, append_left, append_right, in_each}
 use Rattle.mast_cq.specs.Queries.{In}
 use Rattle.mast_join.specs.Chosen.{AreChoices}
@@ -12,15 +11,12 @@ use Rattle.mast_mapping.specs.declared.split_map.SplitMap.{SplitMap}
 use Rattle.mast_tables.specs.declared.declaration.TableDecl.{TableDecl}
 use Rattle.mast_tables.specs.Rows.{Row}
 use Rattle.mast_terms.specs.Vocabularies.{Lists}
+use Rattle.mast_write.specs.FactPlans.{Planned, line_of}
 use Rattle.mast_write.specs.LineText.{AreSame, IsTextOf, StandsIn}
 use Rattle.mast_write.proofs.TextLemmas.{text_of_same}
-use Rattle.mast_cli.specs.declared.command.line_plan.LinePlan.{LinePlan}
-use Rattle.mast_cli.specs.command.Facts.{line_of}
 use Rattle.mast_cli.specs.inside.FactLines.{AddsLines, IsLineOf, IsMapLine, lines_of}
-use Rattle.mast_cli.specs.inside.Plans.{AreThere, IsPlan, chosen_cell, plan_text}
 use Rattle.mast_cli.proofs.ChoiceLemmas.{are_met, met}
 use Rattle.mast_cli.proofs.ListLemmas.{in_given, given_in, in_contains, contains_in}
-use Rattle.mast_cli.proofs.PlaceLemmas.{are_there, same_text}
 
 module _ (vocab : Lists) (decls : List TableDecl) (tables : List (List Row)) where
   -- the lines so far are those of the split mappings that are gone
@@ -106,25 +102,23 @@ module _ (vocab : Lists) (decls : List TableDecl) (tables : List (List Row)) whe
       );
     }
 
-    module _ (plan : LinePlan) (is : IsPlan vocab decls map plan) (fits : Fits decls tables) (choices : List (List ℕ)) (are : AreChoices decls tables map.query None choices) where
+    module _ (choices : List (List ℕ)) (are : AreChoices decls tables map.query None choices) where
       met_by : (choice : List ℕ) → In choice choices → Meets decls tables map.query choice
       met_by choice h = ((are.exact choice).0 h).meets
 
-      -- where a plan prints the line of each of them
-      pub choices_added : (old new : List (List ℕ)) → new ≡ old ++ lines_of tables plan choices → AddsLines old new (IsMapLine vocab decls tables map)
-      choices_added old new e =
-          map_lines (λ choice. plan_text (chosen_cell tables choice) plan) choices old new
+      -- where a plan of the split mapping prints the line of each of them
+      pub choices_added : (planned : Planned) → planned ≡ record { vocab = vocab; tables = decls; mapping = map }
+          → (rows : List (List Row)) → rows ≡ tables → (old new : List (List ℕ))
+          → new ≡ old ++ lines_of planned rows choices → AddsLines old new (IsMapLine vocab decls tables map)
+      choices_added planned of rows same old new e =
+          map_lines line_at choices old new
           (λ choice. (met_by choice, (λ h. (are.exact choice).1 (record { meets = h; within = tt }))))
-          (λ choice meets.
-          same_text decls tables map.query.from choice fits meets.is_choice plan is.places
-          ∙ is.text (chosen decls tables map.query.from choice))
-          e
+          (λ choice meets. refl)
+          (e ∙ ap (λ (ts : List (List Row)). old ++ lines_of planned ts choices) same ∙ ap (λ (p : Planned). old ++ lines_of p tables choices) of)
 
-      -- the choices have the cells of the plan
-      pub choices_there : AllByRecursion (λ choice. AreThere tables choice plan.cells.items) choices
-      choices_there =
-          in_each (λ choice. AreThere tables choice plan.cells.items) choices
-          (λ choice h. are_there decls tables map.query.from choice fits (met_by choice h).is_choice plan.cells.items is.places)
+      -- they are choices of a plan of the split mapping
+      pub are_choices : AllByRecursion (IsChoice decls tables map.query) choices
+      are_choices = in_each (IsChoice decls tables map.query) choices (λ choice h. (met_by choice h).is_choice)
 
   -- there is a list of the lines of all split mappings
   pub some_written : (left all : List SplitMap) (old : List (List ℕ)) → Written left all old → (lines : List (List ℕ)) × Written [] all lines

@@ -1,15 +1,11 @@
 -- The stage of a mapping document has one end.
 use Rattle.std.proofs.Common.{◌≡◌, ◌<◌, ℕ, List, [], ◌∷◌, Some, Result, Ok, Err, IfOk, length, slice_get, refl, arith}
 use Rattle.std.specs.List.{AllByRecursion}
-use Rattle.mast_canon.specs.Conditions.{MapsInRange, StandsIn, places}
-use Rattle.mast_canon.specs.Named.{HeadNamed}
+use Rattle.mast_canon.specs.Conditions.{places}
 use Rattle.mast_canon.specs.Premises.{AreMappings}
 use Rattle.mast_files.specs.Outside.{Contents}
-use Rattle.mast_mapping.specs.declared.map.Head.{Head}
-use Rattle.mast_mapping.specs.declared.map.Head.TheVariants as head
-use Rattle.mast_mapping.specs.declared.map.Map.{Map}
 use Rattle.mast_mapping.specs.declared.map.Mappings.{Mappings}
-use Rattle.mast_mapping.specs.InRange.{AreInRange, IsHeadIn}
+use Rattle.mast_mapping.specs.InRange.{AreInRange}
 use Rattle.mast_mapping.specs.Documents.{HasMappings, IsMappingsBreach}
 use Rattle.mast_mapping.specs.OverTables.{AreOverTables}
 use Rattle.mast_mapping.proofs.LawLemmas.{has_one_meaning}
@@ -49,20 +45,6 @@ one_answer = record {
 pub one_mappings : (contents : Contents) (file : List ℕ) → HasOneEnd (MappingsStage contents file)
 one_mappings contents file = one_document _ _ one_answer doc.Mappings contents file
 
-head_named : (lists : Lists) (h : Head) → IsHeadIn lists h → HeadNamed (StandsIn lists) h
-head_named lists (head.Class name subject) h = h
-head_named lists (head.Role name from to) h = h
-head_named lists (head.Attr name from value) h = h
-
-heads_named : (lists : Lists) (heads : List Head) → AllByRecursion (IsHeadIn lists) heads → AllByRecursion (HeadNamed (StandsIn lists)) heads
-heads_named lists [] h = tt
-heads_named lists (x ∷ heads) h = (head_named lists x h.0, heads_named lists heads h.1)
-
--- maps whose names stand in a vocabulary, in the words of specifications
-pub in_range : (lists : Lists) (maps : List Map) → AreInRange lists maps → MapsInRange lists maps
-in_range lists [] h = tt
-in_range lists (m ∷ maps) h = (heads_named lists m.heads h.0, in_range lists maps h.1)
-
 -- mappings that were read are fit for a specification
 pub are_mappings : (document : Document) (read : Result Mappings (Stop ShapeBreach)) → IsTree document.tokens document.items → length document.tokens < places
     → Answers read (HasMappings document nothing_named) (IsMappingsBreach document nothing_named)
@@ -70,4 +52,4 @@ pub are_mappings : (document : Document) (read : Result Mappings (Stop ShapeBrea
 are_mappings document (Err stopped) tree few answers over names = tt
 are_mappings document (Ok m) tree few answers over names =
     let numbers = have_numbers document m tree few answers in
-    record { names = in_range m.vocab m.maps names; over = over; tables = numbers.0; heads = numbers.1 }
+    record { names = names; over = over; tables = numbers.0; heads = numbers.1 }

@@ -3,6 +3,4 @@ pub mod Causes
 pub mod Commands
 pub mod FactLines
 pub mod Loading
-pub mod Places
-pub mod Plans
 pub mod Telling

@@ -1,4 +1,2 @@
-//! The commands, a file each, and how they print.
+//! The commands, a file each.
 pub mod facts;
-mod line_plan;
-mod place;

@@ -1,5 +1,6 @@
 -- The lines of facts.
 use Rattle.std.specs.Prelude.{◌≡◌, ◌<◌, ℕ, List, [], ◌∷◌, ◌++◌, length, map, slice_get, unwrap_or, codes, Contains}
+use Rattle.mast_cq.specs.Meanings.{Fact as FactOfTerms, InClass, InRole, InAttr}
 use Rattle.mast_terms.specs.declared.name.Name.{Name}
 use Rattle.mast_terms.specs.declared.name.NameKind.{NameKind}
 use Rattle.mast_terms.specs.declared.name.NameKind.TheVariants as kind
@@ -37,6 +38,12 @@ terms_text (term ∷ terms) = term_text term ++ later_terms terms
 abbrev pub fact_line : Lists → Fact → List ℕ
 fact_line vocab fact =
     codes "<" ++ (iri_of vocab fact.kind fact.name ++ (codes ">(" ++ (terms_text fact.terms ++ codes ")")))
+
+-- a fact of the mappings as it is printed
+abbrev pub printed : FactOfTerms Term → Fact
+printed (InClass name t) = record { kind = kind.Class; name = name; terms = t ∷ [] }
+printed (InRole name t u) = record { kind = kind.Role; name = name; terms = t ∷ u ∷ [] }
+printed (InAttr name t v) = record { kind = kind.Attr; name = name; terms = t ∷ v ∷ [] }
 
 -- the line of one of these facts
 abbrev pub IsFactLine : Lists → List Fact → List ℕ → Type 0

@@ -1,4 +1,5 @@
 pub mod FactLines
+pub mod FactPlans
 pub mod Laws
 pub mod LineText
 pub mod RefusalLines

@@ -1,19 +1,23 @@
 //! Every printed line that more than one command has: facts, refusals, limits and read faults, the usage text.
 //! What the crates above rest on: each call gives exactly the bytes of its text, whatever order its items come in.
-//! In `specs/`, LineText says what the text of a set of lines is; FactLines, RefusalLines and Usage have the lines.
+//! In `specs/`, LineText has the text of a set of lines; FactLines, FactPlans, RefusalLines and Usage have the lines.
 //! It must not know when a line is due, with which status a run ends, nor where its bytes go.
 #![tactic(auto)]
 
+mod cells;
 mod document_lines;
 mod fact_lines;
+mod fact_plan;
 mod file_lines;
 mod laws;
+mod line_plan;
 mod line_set;
 mod places;
 mod refusals;
 mod usage;
 
 pub use fact_lines::{Fact, facts_text};
+pub use fact_plan::FactPlan;
 pub use laws::texts_are_one;
 pub use line_set::Lines;
 pub use refusals::{EventKind, Refusal, refusal_text};

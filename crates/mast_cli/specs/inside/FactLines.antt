@@ -10,11 +10,9 @@ use Rattle.mast_mapping.specs.declared.split_map.SplitMap.{SplitMap}
 use Rattle.mast_tables.specs.declared.declaration.TableDecl.{TableDecl}
 use Rattle.mast_tables.specs.Rows.{Row}
 use Rattle.mast_terms.specs.Vocabularies.{Lists}
+use Rattle.mast_write.specs.FactPlans.{Planned, chosen_line, line_of}
 use Rattle.mast_write.specs.LineText.{AreSame, IsTextOf, StandsIn}
 use Rattle.mast_write.specs.Written.{Written}
-use Rattle.mast_cli.specs.declared.command.line_plan.LinePlan.{LinePlan}
-use Rattle.mast_cli.specs.command.Facts.{line_of}
-use Rattle.mast_cli.specs.inside.Plans.{chosen_cell, plan_text}
 
 -- split mappings over tables, with names of the vocabulary
 pub record AreMaps (vocab : Lists) (tables : List TableDecl) (maps : List SplitMap) : Type 0 where
@@ -55,5 +53,5 @@ abbrev pub AddsMap : Spec → Tables → SplitMap → Written → Written → Ty
 AddsMap spec tables map old new = AddsLines old.lines new.lines (IsMapLine spec.vocab spec.tables tables.list map)
 
 -- the lines of choices in order; a choice with a missing cell has none
-abbrev pub lines_of : List (List Row) → LinePlan → List (List ℕ) → List (List ℕ)
-lines_of tables plan choices = filter_map (λ choice. plan_text (chosen_cell tables choice) plan) choices
+abbrev pub lines_of : Planned → List (List Row) → List (List ℕ) → List (List ℕ)
+lines_of planned tables choices = filter_map (chosen_line planned tables) choices

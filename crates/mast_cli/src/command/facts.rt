@@ -1,13 +1,12 @@
 //! The command `facts`: the mapping document, then each declared table, and the text of all facts.
 ghost use Rattle.std.specs.Prelude.{◌≡◌, ◌++◌, [], ◌∷◌, IfOk, OnOk};
 ghost use Rattle.std.specs.List.{AllByRecursion};
+ghost use Rattle.mast_canon.specs.Choices.{IsChoice};
 ghost use Rattle.mast_canon.specs.Fitting.{Fits};
 ghost use Rattle.mast_cli.specs.inside.Causes.{JudgedHasCause};
 ghost use Rattle.mast_cli.specs.inside.FactLines.{AddsMap, AreFactLines, AreMaps, IsFactText, lines_of};
-ghost use Rattle.mast_cli.specs.inside.Plans.{AreThere};
 ghost use Rattle.mast_cli.specs.inside.Telling.{TellsFacts, WhenTold};
 
-use crate::command::line_plan::{LinePlan, line_plan};
 use crate::document::judge_mappings;
 use crate::judged::{Judged, Part};
 use crate::status::Status;
@@ -18,7 +17,7 @@ use mast_join::{Choices, choices};
 use mast_mapping::SplitMap;
 use mast_tables::{Table, files_have_one_answer};
 use mast_terms::NoMemory;
-use mast_write::Lines;
+use mast_write::{FactPlan, Lines};
 use std::alloc::Global;
 
 /// What `facts` answers on the mapping document in this file.
@@ -70,7 +69,6 @@ fn facts_lines(alloc: Global, spec: &Spec, tables: Tables) -> Result<Lines, NoMe
 }
 
 // Writes the line of each choice that meets the source query of a split mapping.
-#[tactic(auto, using(crate::proofs::MapLemmas::choices_added))]
 fn put_map(
     alloc: Global,
     spec: &Spec,
@@ -84,7 +82,7 @@ fn put_map(
     ensures lines { OnOk result (AddsMap spec.now tables.now map.now lines.old lines.new) }
     ensures clean { OnOk result (lines.new.begun ≡ []) }
 {
-    let plan = line_plan(alloc, &spec.vocab, spec.tables.as_slice(), map)?;
+    let plan = FactPlan::new(alloc, &spec.vocab, spec.tables.as_slice(), map)?;
     let chosen = choices(alloc, &map.query, spec.tables.as_slice(), tables, None)?;
     put_choices(alloc, &plan, tables.list.as_slice(), &chosen, lines)
 }
@@ -92,14 +90,15 @@ fn put_map(
 // Writes the line of each choice.
 fn put_choices(
     alloc: Global,
-    plan: &LinePlan,
+    plan: &FactPlan<'_>,
     tables: &[Table],
     chosen: &Choices,
     lines: &mut Lines,
 ) -> Result<(), NoMemory>
-    requires there { AllByRecursion (λ choice. AreThere tables.now choice plan.now.cells.items) chosen.now.list }
+    requires fits { Fits plan.now.tables tables.now }
+    requires choices { AllByRecursion (IsChoice plan.now.tables tables.now plan.now.mapping.query) chosen.now.list }
     requires clean { lines.old.begun ≡ [] }
-    ensures lines { OnOk result (lines.new.lines ≡ lines.old.lines ++ lines_of tables.now plan.now chosen.now.list) }
+    ensures lines { OnOk result (lines.new.lines ≡ lines.old.lines ++ lines_of plan.now tables.now chosen.now.list) }
     ensures clean { OnOk result (lines.new.begun ≡ []) }
 {
     for number in 0..chosen.len() {

@@ -1,0 +1,4 @@
+pub mod CountingMeetings
+pub mod Closures
+pub mod Rewritings
+pub mod ClosureLaws
