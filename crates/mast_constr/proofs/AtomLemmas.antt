@@ -17,13 +17,14 @@ use Rattle.mast_tree.specs.Constants.{constant_of}
 use Rattle.mast_tree.specs.Judgements.{Judgement, breaks, first_breach, AreRight, Judges}
 use Rattle.mast_tree.specs.Results.{Gives}
 use Rattle.mast_tree.specs.Said.{Said, node, line}
-use Rattle.mast_expressions.specs.Pages.{Page, says}
-use Rattle.mast_constr.specs.Denials.{Dates, class_atom, role_atom, attr_atom, atom_said, atom_judged, deny_judged, with_value, IsAtom, IsConstant, IsValue, AreDenied, constant_judged, inner_line, value_said, value_judged, atoms_judged}
+use Rattle.mast_tree.specs.Pages.{Page, says}
+use Rattle.mast_constr.specs.Denials.{Dates, class_atom, role_atom, attr_atom, atom_said, atom_judged, deny_judged, IsAtom, IsConstant, IsValue, AreDenied, constant_judged, inner_line, value_said, value_judged, atoms_judged}
 use Rattle.mast_constr.specs.declared.variables.Sort.TheVariants.{Value}
-use Rattle.mast_constr.specs.Variables.{Variables, variable, placed, variable_judged, IsVariable}
-use Rattle.mast_constr.specs.inside.Atoms.{atoms_from, with_arguments, with_atom, with_atoms}
+use Rattle.mast_constr.specs.Variables.{Variables, variable, variable_judged, IsVariable}
+use Rattle.mast_constr.specs.inside.Atoms.{placed, with_value, atoms_from, with_arguments, with_atom, with_atoms}
 use Rattle.mast_constr.specs.inside.Rules.{GivesAtom, GivesAtoms, GivesConstant}
-use Rattle.mast_constr.proofs.PlaceLemmas.{variables_are, judged_is}
+use Rattle.mast_constr.proofs.BehindLemmas.{judged_is}
+use Rattle.mast_constr.proofs.PlaceLemmas.{variables_are}
 use Rattle.mast_constr.proofs.StepLemmas.{added_all}
 
 -- what is judged of a node of each word

@@ -35,18 +35,22 @@ use Rattle.mast_tree.proofs.GrowingLemmas.{begins_same, after_begins}
 use Rattle.mast_tree.proofs.JudgementLemmas.{after-append}
 use Rattle.mast_expressions.specs.Given.{IsNamed, IsLeft}
 use Rattle.mast_expressions.specs.Judged.{named_judged, left_judged, role_judged}
-use Rattle.mast_expressions.specs.Pages.{Page, says}
+use Rattle.mast_tree.specs.Pages.{Page, says}
 use Rattle.mast_expressions.proofs.FoundLemmas.{none_parts, named_found, role_found, left_found}
 use Rattle.mast_expressions.proofs.GivenLemmas.{named_grows, left_grows}
 use Rattle.mast_expressions.proofs.ReadLemmas.{is_node}
+use Rattle.mast_tree.specs.Empty.{is_empty}
+use Rattle.mast_constr.specs.inside.Atoms.{joined, placed}
 use Rattle.mast_constr.specs.declared.variables.Sort.{Sort}
 use Rattle.mast_constr.specs.declared.variables.Sort.TheVariants.{Object, Value}
 use Rattle.mast_constr.specs.Denials as denial
 use Rattle.mast_constr.specs.inside.Atoms as within
 use Rattle.mast_constr.specs.Items as item_of
 use Rattle.mast_constr.specs.Paths as paths_of
-use Rattle.mast_constr.specs.Variables.{Variables, variable, sort_of, joined, placed, sort_judged, variable_judged, IsVariable}
-use Rattle.mast_constr.proofs.PlaceLemmas.{variables_are, judged_is}
+use Rattle.mast_constr.specs.Variables.{Variables, variable, sort_of, sort_judged, variable_judged, IsVariable}
+use Rattle.mast_constr.proofs.FirstPlaceLemmas.{object_behind, value_behind}
+use Rattle.mast_constr.proofs.BehindLemmas.{judged_is}
+use Rattle.mast_constr.proofs.PlaceLemmas.{variables_are}
 use Rattle.mast_constr.proofs.GrowLemmas.{step_grows, path_grows, atom_grows, lined_grows}
 use Rattle.mast_constr.proofs.VariableLemmas.{begins_here, placed_begins, atoms_begin, variable_grows}
 
@@ -111,9 +115,9 @@ steps_found : (old : Lists) (page : Page) (items : List Item) → first_breach o
     → (path : List Step) × AreEach (paths_of.IsStep (after old (paths_of.steps_judged page items)) page) items path
 steps_found old page [] h = ([], tt)
 steps_found old page (i ∷ is) h =
-    let first = paths_of.step_judged (paths_of.is_none is) page i in
+    let first = paths_of.step_judged (is_empty is) page i in
     let parts = none_parts old first (paths_of.steps_judged page is) h in
-    let s = step_found old (paths_of.is_none is) page i (says page i) refl parts.0 in
+    let s = step_found old (is_empty is) page i (says page i) refl parts.0 in
     let rest = steps_found (after old first) page is parts.1 in (
       s.0 ∷ rest.0,
       (
@@ -246,14 +250,14 @@ constant_found old (Ok value) at h = let w = number_found old.constants value in
 
 leaf_value : (old : Lists) (dates : denial.Dates) (page : Page) (known : Variables) (item : Item) (what : Said) → says page item ≡ what
     → first_breach old (variable_judged Value known (variable what) (line what)) ≡ None
-    → (g : Arg) × denial.IsValue dates (after old (variable_judged Value known (variable what) (line what))) page (denial.with_value page known item) item g
+    → (g : Arg) × denial.IsValue dates (after old (variable_judged Value known (variable what) (line what))) page (within.with_value page known item) item g
 leaf_value old dates page known item what e h =
     let w = variable_found old Value known (variable what) (line what) h in
     (w.0, inr (subst (λ s. IsVariable Value (placed Value (variable s) known) (variable s) w.0) (sym e) w.1))
 
 value_found : (old : Lists) (dates : denial.Dates) (page : Page) (known : Variables) (item : Item) (what : Said) → says page item ≡ what
     → first_breach old (denial.value_said dates page known what) ≡ None
-    → (g : Arg) × denial.IsValue dates (after old (denial.value_said dates page known what)) page (denial.with_value page known item) item g
+    → (g : Arg) × denial.IsValue dates (after old (denial.value_said dates page known what)) page (within.with_value page known item) item g
 value_found old dates page known item (name word at) e h = leaf_value old dates page known item (name word at) e h
 value_found old dates page known item (iri word at) e h = leaf_value old dates page known item (iri word at) e h
 value_found old dates page known item (text chars at) e h = leaf_value old dates page known item (text chars at) e h
@@ -276,7 +280,7 @@ many_found P old false at inside f h = absurd (cc)
 
 class_inside : (dates : denial.Dates) (old : Lists) (page : Page) (known : Variables) (i j : Item)
     → first_breach old (named_judged Shape kinds.Class page i ++ denial.object_judged page known j) ≡ None
-    → (g : Atom) × Inside dates page (denial.with_object page known j) (codes "Class") (i ∷ j ∷ []) (after old (named_judged Shape kinds.Class page i ++ denial.object_judged page known j)) g
+    → (g : Atom) × Inside dates page (within.with_object page known j) (codes "Class") (i ∷ j ∷ []) (after old (named_judged Shape kinds.Class page i ++ denial.object_judged page known j)) g
 class_inside dates old page known i j h =
     let first = named_judged Shape kinds.Class page i in
     let second = denial.object_judged page known j in
@@ -287,22 +291,23 @@ class_inside dates old page known i j h =
 
 role_inside : (dates : denial.Dates) (old : Lists) (page : Page) (known : Variables) (i j k : Item)
     → first_breach old (named_judged Shape kinds.Role page i ++ denial.pair_judged page known j k) ≡ None
-    → (g : Atom) × Inside dates page (denial.with_object page (denial.with_object page known j) k) (codes "Role") (i ∷ j ∷ k ∷ []) (after old (named_judged Shape kinds.Role page i ++ denial.pair_judged page known j k)) g
+    → (g : Atom) × Inside dates page (within.with_object page (within.with_object page known j) k) (codes "Role") (i ∷ j ∷ k ∷ []) (after old (named_judged Shape kinds.Role page i ++ denial.pair_judged page known j k)) g
 role_inside dates old page known i j k h =
     let first = named_judged Shape kinds.Role page i in
     let second = denial.pair_judged page known j k in
     let parts = none_parts old first second h in
-    let between = denial.with_object page known j in
-    let pair = none_parts (after old first) (denial.object_judged page known j) (denial.object_judged page between k) parts.1 in
+    let between = within.with_object page known j in
+    let pair = none_parts (after old first) (denial.object_judged page known j) (denial.object_judged page (known ++ denial.object_place page j) k) parts.1 in
+    let second_none = ap (first_breach (after (after old first) (denial.object_judged page known j))) (object_behind page known j k) ∙ pair.1 in
     let n = named_found old Shape kinds.Role page i parts.0 in
     let x = variable_found (after old first) Object known (variable (says page j)) (line (says page j)) pair.0 in
-    let y = variable_found (after (after old first) (denial.object_judged page known j)) Object between (variable (says page k)) (line (says page k)) pair.1 in (
+    let y = variable_found (after (after old first) (denial.object_judged page known j)) Object between (variable (says page k)) (line (says page k)) second_none in (
       atom.Role n.0 x.0 y.0,
       (
         refl,
         (
           behind (λ lists. IsNamed lists kinds.Role page i n.0) (λ new before b. named_grows new before kinds.Role page i n.0 b) old first second n.1,
-          variable_grows Object (denial.with_object page between k) between (variable (says page j)) x.0 (placed_begins Object (variable (says page k)) between) x.1,
+          variable_grows Object (within.with_object page between k) between (variable (says page j)) x.0 (placed_begins Object (variable (says page k)) between) x.1,
           y.1,
         ),
       ),
@@ -310,26 +315,28 @@ role_inside dates old page known i j k h =
 
 attr_inside : (dates : denial.Dates) (old : Lists) (page : Page) (known : Variables) (i j k : Item)
     → first_breach old (named_judged Shape kinds.Attr page i ++ denial.filler_judged dates page known j k) ≡ None
-    → (g : Atom) × Inside dates page (denial.with_value page (denial.with_object page known j) k) (codes "Attr") (i ∷ j ∷ k ∷ []) (after old (named_judged Shape kinds.Attr page i ++ denial.filler_judged dates page known j k)) g
+    → (g : Atom) × Inside dates page (within.with_value page (within.with_object page known j) k) (codes "Attr") (i ∷ j ∷ k ∷ []) (after old (named_judged Shape kinds.Attr page i ++ denial.filler_judged dates page known j k)) g
 attr_inside dates old page known i j k h =
     let first = named_judged Shape kinds.Attr page i in
     let second = denial.filler_judged dates page known j k in
     let parts = none_parts old first second h in
-    let between = denial.with_object page known j in
-    let last = denial.with_value page between k in
+    let between = within.with_object page known j in
+    let last = within.with_value page between k in
     let from = denial.object_judged page known j in
-    let to = denial.value_judged dates page between k in
+    let to = denial.value_judged dates page (known ++ denial.object_place page j) k in
     let pair = none_parts (after old first) from to parts.1 in
     let n = named_found old Shape kinds.Attr page i parts.0 in
     let x = variable_found (after old first) Object known (variable (says page j)) (line (says page j)) pair.0 in
-    let y = value_found (after (after old first) from) dates page between k (says page k) refl pair.1 in (
+    let same = value_behind dates page known j k in
+    let y = value_found (after (after old first) from) dates page between k (says page k) refl (ap (first_breach (after (after old first) from)) same ∙ pair.1) in
+    let is = subst (λ js. denial.IsValue dates (after (after (after old first) from) js) page last k y.0) same y.1 in (
       atom.Attr n.0 x.0 y.0,
       (
         refl,
         (
           behind (λ lists. IsNamed lists kinds.Attr page i n.0) (λ new before b. named_grows new before kinds.Attr page i n.0 b) old first second n.1,
           variable_grows Object last between (variable (says page j)) x.0 (placed_begins Value (variable (says page k)) between) x.1,
-          after_both (λ lists. denial.IsValue dates lists page last k y.0) old first second (after_both (λ lists. denial.IsValue dates lists page last k y.0) (after old first) from to y.1),
+          after_both (λ lists. denial.IsValue dates lists page last k y.0) old first second (after_both (λ lists. denial.IsValue dates lists page last k y.0) (after old first) from to is),
         ),
       ),
     )
@@ -340,7 +347,7 @@ class_found : (dates : denial.Dates) (old : Lists) (page : Page) (number : ℕ) 
 class_found dates old page number known at [] h = absurd (cc)
 class_found dates old page number known at (i ∷ []) h = absurd (cc)
 class_found dates old page number known at (i ∷ j ∷ []) h =
-    many_found (Inside dates page (denial.with_object page known j) (codes "Class") (i ∷ j ∷ [])) old (nat_lt number MOST_ATOMS) at
+    many_found (Inside dates page (within.with_object page known j) (codes "Class") (i ∷ j ∷ [])) old (nat_lt number MOST_ATOMS) at
     (named_judged Shape kinds.Class page i ++ denial.object_judged page known j) (class_inside dates old page known i j) h
 class_found dates old page number known at (i ∷ j ∷ k ∷ ks) h = absurd (cc)
 
@@ -351,7 +358,7 @@ roles_found dates old page number known at [] h = absurd (cc)
 roles_found dates old page number known at (i ∷ []) h = absurd (cc)
 roles_found dates old page number known at (i ∷ j ∷ []) h = absurd (cc)
 roles_found dates old page number known at (i ∷ j ∷ k ∷ []) h =
-    many_found (Inside dates page (denial.with_object page (denial.with_object page known j) k) (codes "Role") (i ∷ j ∷ k ∷ [])) old (nat_lt number MOST_ATOMS) at
+    many_found (Inside dates page (within.with_object page (within.with_object page known j) k) (codes "Role") (i ∷ j ∷ k ∷ [])) old (nat_lt number MOST_ATOMS) at
     (named_judged Shape kinds.Role page i ++ denial.pair_judged page known j k) (role_inside dates old page known i j k) h
 roles_found dates old page number known at (i ∷ j ∷ k ∷ l ∷ ls) h = absurd (cc)
 
@@ -362,7 +369,7 @@ fillers_found dates old page number known at [] h = absurd (cc)
 fillers_found dates old page number known at (i ∷ []) h = absurd (cc)
 fillers_found dates old page number known at (i ∷ j ∷ []) h = absurd (cc)
 fillers_found dates old page number known at (i ∷ j ∷ k ∷ []) h =
-    many_found (Inside dates page (denial.with_value page (denial.with_object page known j) k) (codes "Attr") (i ∷ j ∷ k ∷ [])) old (nat_lt number MOST_ATOMS) at
+    many_found (Inside dates page (within.with_value page (within.with_object page known j) k) (codes "Attr") (i ∷ j ∷ k ∷ [])) old (nat_lt number MOST_ATOMS) at
     (named_judged Shape kinds.Attr page i ++ denial.filler_judged dates page known j k) (attr_inside dates old page known i j k) h
 fillers_found dates old page number known at (i ∷ j ∷ k ∷ l ∷ ls) h = absurd (cc)
 

@@ -21,7 +21,7 @@ use Rattle.mast_tbox.proofs.EachLemmas.{each_more}
 use Rattle.mast_tree.specs.declared.item.Item.{Item}
 use Rattle.mast_tree.specs.Growing.{BeginsWith, Begins}
 use Rattle.mast_tree.proofs.GrowingLemmas.{get_grows}
-use Rattle.mast_expressions.specs.Pages.{Page, says}
+use Rattle.mast_tree.specs.Pages.{Page, says}
 use Rattle.mast_expressions.proofs.GivenLemmas.{named_grows, role_grows, left_grows}
 use Rattle.mast_constr.specs.declared.variables.Sort.TheVariants.{Object, Value}
 use Rattle.mast_constr.specs.Denials.{Dates, IsConstant, IsValue, IsClassOf, IsRoleOf, IsAttrAtomOf, IsAtomOf, IsAtom, variables_of}

@@ -13,7 +13,8 @@ use Rattle.mast_tbox.specs.declared.expression.Basic.{Basic}
 use Rattle.mast_tbox.specs.ConstraintForms.{IsDenial, IsIdentification, HasForm, HaveForm, most_steps}
 use Rattle.mast_tbox.specs.Lists.{items as items_of}
 use Rattle.mast_tbox.specs.Names.{ConstraintNamed}
-use Rattle.mast_tbox.specs.Vocabularies.{StandsIn, ConstantsStandIn}
+use Rattle.mast_tbox.specs.Vocabularies.{ConstantsStandIn}
+use Rattle.mast_tree.specs.Names.{StandsIn}
 use Rattle.mast_tree.specs.declared.item.Item.{Item}
 use Rattle.mast_tree.specs.declared.shape.ShapeKind.TheVariants.{Shape}
 use Rattle.mast_tree.specs.Growing.{Begins}
@@ -22,7 +23,7 @@ use Rattle.mast_tree.specs.Judgements.{after, first_breach}
 use Rattle.mast_tree.specs.Seen.{Document}
 use Rattle.mast_tree.proofs.GrowingLemmas.{right_begins}
 use Rattle.mast_expressions.specs.Judged.{left_judged}
-use Rattle.mast_expressions.specs.Pages.{Page, page_of}
+use Rattle.mast_tree.specs.Pages.{Page, page_of}
 use Rattle.mast_expressions.proofs.FoundLemmas.{none_parts}
 use Rattle.mast_constr.specs.Denials.{Dates, AreDenied, deny_judged, variables_of}
 use Rattle.mast_constr.specs.Items.{constraint_said, constraint_judged, constraints_judged, IsConstraint, AreConstraints}
@@ -30,7 +31,7 @@ use Rattle.mast_constr.specs.Kept.{HasPath, AreKept}
 use Rattle.mast_constr.specs.Paths.{identify_judged, paths_judged, are_many, all_steps, AreIdentified}
 use Rattle.mast_constr.specs.Whole.{HasList}
 use Rattle.mast_constr.proofs.KnownLemmas.{constraint_names, constraint_constants}
-use Rattle.mast_constr.proofs.PlaceLemmas.{judged_is}
+use Rattle.mast_constr.proofs.BehindLemmas.{judged_is}
 use Rattle.mast_constr.proofs.SizeLemmas.{broken, not_long, few_steps, together, paths_kept, few_atoms}
 use Rattle.mast_constr.proofs.SortLemmas.{denied_sorts}
 

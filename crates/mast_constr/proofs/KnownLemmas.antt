@@ -21,10 +21,11 @@ use Rattle.mast_tbox.specs.declared.expression.Prop.{Prop}
 use Rattle.mast_tbox.specs.declared.expression.Prop.TheVariants as prop
 use Rattle.mast_tbox.specs.Lists.{AreEach}
 use Rattle.mast_tbox.specs.Names.{BasicNamed, PropNamed, StepNamed, ConstraintNamed}
-use Rattle.mast_tbox.specs.Vocabularies.{StandsIn, ConstantsStandIn}
+use Rattle.mast_tbox.specs.Vocabularies.{ConstantsStandIn}
+use Rattle.mast_tree.specs.Names.{StandsIn}
 use Rattle.mast_tbox.proofs.EachLemmas.{each_of}
 use Rattle.mast_tree.specs.declared.item.Item.{Item}
-use Rattle.mast_expressions.specs.Pages.{Page}
+use Rattle.mast_tree.specs.Pages.{Page}
 use Rattle.mast_expressions.proofs.KnownLemmas.{named_known, role_known, left_known}
 use Rattle.mast_constr.specs.Denials.{Dates, IsConstant, IsValue, IsObject, IsClassOf, IsRoleOf, IsAttrAtomOf, IsAtomOf, IsAtom, variables_of}
 use Rattle.mast_constr.specs.Items.{IsProp, IsFunctionalOf, IsConstraintOf}

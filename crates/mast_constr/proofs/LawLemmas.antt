@@ -15,7 +15,7 @@ use Rattle.mast_tree.specs.Seen.{Document}
 use Rattle.mast_tree.proofs.GrowingLemmas.{after_begins}
 use Rattle.mast_tree.proofs.JudgementLemmas.{after-append}
 use Rattle.mast_tree.proofs.JudgedLemmas.{one_prefixes, one_inside, right_or_breach, right_not_breach, one_first_breach, one_vocabulary}
-use Rattle.mast_expressions.specs.Pages.{page_of}
+use Rattle.mast_tree.specs.Pages.{page_of}
 use Rattle.mast_expressions.proofs.DateLemmas.{the_dates, are_dates, one_dates}
 use Rattle.mast_expressions.proofs.FoundLemmas.{none_parts}
 use Rattle.mast_tree.proofs.VocabularyLemmas.{after_lawful}

@@ -1,5 +1,7 @@
 pub mod VariableLemmas
 pub mod PlaceLemmas
+pub mod FirstPlaceLemmas
+pub mod BehindLemmas
 pub mod GrowLemmas
 pub mod SortLemmas
 pub mod KnownLemmas

@@ -12,7 +12,7 @@ use Rattle.mast_tree.specs.Constants.{AreDates}
 use Rattle.mast_tree.specs.Judgements.{AreRight, Judges}
 use Rattle.mast_tree.proofs.GrowingLemmas.{begins_same, begins_join, right_begins}
 use Rattle.mast_tree.proofs.JudgementLemmas.{right_parts}
-use Rattle.mast_expressions.specs.Pages.{Page}
+use Rattle.mast_tree.specs.Pages.{Page}
 use Rattle.mast_expressions.proofs.ReadLemmas.{handed, stops, stops_first, stops_second}
 use Rattle.mast_constr.specs.Denials.{Dates}
 use Rattle.mast_constr.specs.Items.{constraint_judged, constraints_judged, AreConstraints}

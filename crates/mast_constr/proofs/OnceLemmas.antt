@@ -5,12 +5,12 @@ use Rattle.std.specs.Str.{bytes_eq}
 use Rattle.std.proofs.lemmas.Slice.Eq.{bytes_eq-Decides}
 use Rattle.mast_tree.specs.declared.item.Item.{Item}
 use Rattle.mast_tree.specs.Said.{Said, name, iri, text, tagged, binding, node}
-use Rattle.mast_expressions.specs.Pages.{Page, says}
+use Rattle.mast_tree.specs.Pages.{Page, says}
 use Rattle.mast_constr.specs.declared.variables.Sort.{Sort}
 use Rattle.mast_constr.specs.declared.variables.Sort.TheVariants.{Object, Value}
 use Rattle.mast_constr.specs.Denials.{variables_of}
-use Rattle.mast_constr.specs.Variables.{Variables, variable, sort_of, joined, placed}
-use Rattle.mast_constr.specs.inside.Atoms.{with_arguments, with_atom, with_atoms}
+use Rattle.mast_constr.specs.Variables.{Variables, variable, sort_of}
+use Rattle.mast_constr.specs.inside.Atoms.{joined, placed, with_arguments, with_atom, with_atoms}
 use Rattle.mast_constr.proofs.PlaceLemmas.{variables_are}
 
 -- two places of one variable are one

@@ -28,7 +28,7 @@ use Rattle.mast_tree.specs.Constants.{constant_of}
 use Rattle.mast_tree.specs.Said.{Said, name, iri, text, tagged, binding, node}
 use Rattle.mast_tree.specs.Seen.{Document}
 use Rattle.mast_expressions.specs.Given.{IsRole}
-use Rattle.mast_expressions.specs.Pages.{Page, says, IsNodeOf}
+use Rattle.mast_tree.specs.Pages.{Page, says, IsNodeOf}
 use Rattle.mast_expressions.proofs.OneLemmas.{named_one, role_one, left_one, node_no_name, inside_one, word_one}
 use Rattle.mast_constr.specs.declared.variables.Sort.{Sort}
 use Rattle.mast_constr.specs.declared.variables.Sort.TheVariants.{Object, Value}

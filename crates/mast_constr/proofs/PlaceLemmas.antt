@@ -1,21 +1,18 @@
 -- The variables of atoms, by their places, are those that reading finds one after the other.
-use Rattle.std.proofs.Common.{◌≡◌, refl, sym, ap, ◌∙◌, subst, ℕ, suc, ◌+◌, Bool, true, false, true≢false, if◌then◌else◌, List, [], ◌∷◌, ◌++◌, length, append_assoc, append-nil, arith}
+use Rattle.std.proofs.Common.{◌≡◌, refl, sym, ap, ◌∙◌, subst, ℕ, Bool, true, false, true≢false, if◌then◌else◌, List, [], ◌∷◌, ◌++◌, append_assoc, append-nil}
 use Rattle.std.specs.Prelude.{Option, Some, None, codes}
-use Rattle.std.specs.List.{flat_map}
 use Rattle.std.specs.Str.{bytes_eq}
 use Rattle.std.proofs.lemmas.Grind.{flat_map-append}
-use Rattle.std.proofs.lemmas.List.{length-append}
 use Rattle.std.proofs.lemmas.Slice.Eq.{bytes_eq-Decides}
 use Rattle.mast_tbox.specs.Lists.{others, once}
 use Rattle.mast_tree.specs.declared.item.Item.{Item}
-use Rattle.mast_tree.specs.Judgements.{Judgement}
 use Rattle.mast_tree.specs.Said.{Said, name, iri, text, tagged, binding, node}
-use Rattle.mast_expressions.specs.Pages.{Page, says}
+use Rattle.mast_tree.specs.Pages.{Page, says}
 use Rattle.mast_constr.specs.declared.variables.Sort.{Sort}
 use Rattle.mast_constr.specs.declared.variables.Sort.TheVariants.{Object, Value}
-use Rattle.mast_constr.specs.Denials.{Dates, atom_judged, places_inside, places_said, places, variables_of, each_behind, atom_behind, atoms_judged}
-use Rattle.mast_constr.specs.Variables.{Variables, variable, place, same_name, sort_of, joined, placed}
-use Rattle.mast_constr.specs.inside.Atoms.{with_arguments, with_atom, with_atoms, atoms_from}
+use Rattle.mast_constr.specs.Denials.{places_inside, places_said, places, variables_of}
+use Rattle.mast_constr.specs.Variables.{Variables, variable, place, same_name, sort_of}
+use Rattle.mast_constr.specs.inside.Atoms.{joined, placed, with_arguments, with_atom, with_atoms}
 
 same_true : (v w : List ℕ) → bytes_eq v w ≡ true → bytes_eq w v ≡ true
 same_true v w h = (bytes_eq-Decides w v).1 (sym ((bytes_eq-Decides v w).0 h))
@@ -24,7 +21,6 @@ same_false : (v w : List ℕ) (b : Bool) → bytes_eq w v ≡ b → bytes_eq v w
 same_false v w true e h = absurd (true≢false (sym (same_true w v e) ∙ h))
 same_false v w false e h = e
 
--- the sort of a name among the others of a list
 sort_step : (x : List ℕ) (q y : List ℕ × Sort) (ys : Variables) (b : Bool) → same_name q y ≡ b → bytes_eq x q.0 ≡ false
     → sort_of x (others same_name q ys) ≡ sort_of x ys → sort_of x (if b then others same_name q ys else y ∷ others same_name q ys) ≡ sort_of x (y ∷ ys)
 sort_step x q y ys true e h more =
@@ -32,7 +28,8 @@ sort_step x q y ys true e h more =
     more ∙ sym (ap (λ c. if c then Some y.1 else sort_of x ys) apart)
 sort_step x q y ys false e h more = ap (λ found. if bytes_eq x y.0 then Some y.1 else found) more
 
-sort_others : (x : List ℕ) (q : List ℕ × Sort) (ys : Variables) → bytes_eq x q.0 ≡ false → sort_of x (others same_name q ys) ≡ sort_of x ys
+-- the sort of a name among the others of a list
+pub sort_others : (x : List ℕ) (q : List ℕ × Sort) (ys : Variables) → bytes_eq x q.0 ≡ false → sort_of x (others same_name q ys) ≡ sort_of x ys
 sort_others x q [] h = refl
 sort_others x q (y ∷ ys) h = sort_step x q y ys (same_name q y) refl h (sort_others x q ys h)
 
@@ -117,7 +114,7 @@ places_end page before item =
     ∙ ap (λ vs. places page before ++ vs) (append-nil (places_said page (says page item)))
 
 -- an atom more
-variables_end : (page : Page) (before : List Item) (item : Item) → with_atom page (variables_of page before) (says page item) ≡ variables_of page (before ++ item ∷ [])
+pub variables_end : (page : Page) (before : List Item) (item : Item) → with_atom page (variables_of page before) (says page item) ≡ variables_of page (before ++ item ∷ [])
 variables_end page before item =
     atom_end page (places page before) (says page item) ∙ ap (once same_name) (sym (places_end page before item))
 
@@ -130,19 +127,3 @@ variables_behind page before (item ∷ items) =
 -- the variables that reading finds are those of the atoms
 pub variables_are : (page : Page) (items : List Item) → with_atoms page [] items ≡ variables_of page items
 variables_are page items = variables_behind page [] items
-
-one_longer : (before : List Item) (item : Item) → suc (length before) ≡ length (before ++ item ∷ [])
-one_longer before item = omega (arith, length-append before (item ∷ []))
-
-judged_behind : (dates : Dates) (page : Page) (before items : List Item)
-    → atoms_from dates page (length before) (variables_of page before) items ≡ each_behind (atom_behind dates page) before items
-judged_behind dates page before [] = refl
-judged_behind dates page before (item ∷ items) =
-    ap (λ js. atom_behind dates page before item ++ js)
-    (ap (λ n. atoms_from dates page n (with_atom page (variables_of page before) (says page item)) items) (one_longer before item)
-    ∙ (ap (λ known. atoms_from dates page (length (before ++ item ∷ [])) known items) (variables_end page before item)
-    ∙ judged_behind dates page (before ++ item ∷ []) items))
-
--- and what is judged as it is read is what is judged of them
-pub judged_is : (dates : Dates) (page : Page) (items : List Item) → atoms_from dates page 0 [] items ≡ atoms_judged dates page items
-judged_is dates page items = judged_behind dates page [] items

@@ -13,9 +13,10 @@ use Rattle.mast_terms.specs.declared.memory.Stop.TheVariants.{Named, NoMemory}
 use Rattle.mast_terms.proofs.PlaceLemmas.{slice_get-push}
 use Rattle.mast_tree.specs.declared.shape.ShapeBreach.{ShapeBreach}
 use Rattle.mast_tree.specs.Judgements.{first_breach, AreRight}
+use Rattle.mast_constr.specs.inside.Atoms.{joined}
 use Rattle.mast_constr.specs.declared.variables.Sort.{Sort}
 use Rattle.mast_constr.specs.declared.variables.Variable.{Variable}
-use Rattle.mast_constr.specs.Variables.{Variables, sort_of, joined, sort_judged, IsVariable}
+use Rattle.mast_constr.specs.Variables.{Variables, sort_of, sort_judged, IsVariable}
 use Rattle.mast_constr.specs.inside.Rules.{IsFound, IsSame, ReadsVariable}
 use Rattle.mast_constr.specs.inside.Shown.{shown_one, shown_all}
 

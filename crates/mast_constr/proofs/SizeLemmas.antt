@@ -20,7 +20,7 @@ use Rattle.mast_tree.specs.declared.shape.ShapeKind.TheVariants.{Shape}
 use Rattle.mast_tree.specs.Judgements.{Judgement, breaks, after, first_breach}
 use Rattle.mast_tree.specs.Said.{node}
 use Rattle.mast_expressions.specs.Judged.{left_judged}
-use Rattle.mast_expressions.specs.Pages.{Page, says}
+use Rattle.mast_tree.specs.Pages.{Page, says}
 use Rattle.mast_expressions.proofs.FoundLemmas.{none_parts}
 use Rattle.mast_constr.specs.Denials.{Dates, IsClassOf, IsRoleOf, IsAttrAtomOf, IsAtom, class_atom, role_atom, attr_atom, atom_said, atom_judged}
 use Rattle.mast_constr.specs.Paths.{leads, some_leads, step_said, step_judged, steps_judged, path_said, path_judged, paths_judged, path_length, all_steps, are_many, identified_judged, IsStep, IsPath}

@@ -13,13 +13,14 @@ use Rattle.mast_tree.specs.Growing.{BeginsWith, Begins}
 use Rattle.mast_tree.specs.Judgements.{Judgement, first_breach, AreRight, Judges}
 use Rattle.mast_tree.proofs.GrowingLemmas.{right_begins}
 use Rattle.mast_tree.proofs.JudgementLemmas.{right_parts, breach_second}
-use Rattle.mast_expressions.specs.Pages.{Page, says}
+use Rattle.mast_tree.specs.Pages.{Page, says}
 use Rattle.mast_expressions.proofs.ReadLemmas.{handed, stops, stops_first, stops_second}
 use Rattle.mast_constr.specs.declared.variables.Sort.TheVariants.{Object, Value}
-use Rattle.mast_constr.specs.Denials.{Dates, object_judged, pair_judged, value_judged, filler_judged, with_object, with_value, atom_judged, IsObject, IsValue, IsAtom}
+use Rattle.mast_constr.specs.Denials.{Dates, object_judged, object_place, pair_judged, value_judged, filler_judged, atom_judged, IsObject, IsValue, IsAtom}
 use Rattle.mast_constr.specs.Variables.{Variables, variable}
-use Rattle.mast_constr.specs.inside.Atoms.{with_atom, with_atoms, atoms_from}
+use Rattle.mast_constr.specs.inside.Atoms.{with_object, with_value, with_atom, with_atoms, atoms_from}
 use Rattle.mast_constr.specs.inside.Rules.{Adds, Puts, GivesAtoms}
+use Rattle.mast_constr.proofs.FirstPlaceLemmas.{object_behind, value_behind}
 use Rattle.mast_constr.proofs.GrowLemmas.{atom_grows}
 use Rattle.mast_constr.proofs.VariableLemmas.{placed_begins, atoms_begin, variable_grows}
 
@@ -64,10 +65,11 @@ pub pair_read : (page : Page) (known mid last : Variables) (from to : Item) (x y
 pair_read page known mid last from to x y lists a b =
     let next = with_object page known from in
     let e = a.1.0 in
-    let second = subst (λ k. AreRight lists (object_judged page k to) lists) e b.0 in
+    let behind = subst (λ k. AreRight lists (object_judged page k to) lists) e b.0 in
+    let second = subst (λ js. AreRight lists js lists) (object_behind page known from to) behind in
     let after = subst (λ k. last ≡ with_object page k to) e b.1.0 in
     let first = subst (λ k. IsObject page k from x) e a.1.1 in (
-      right_parts lists lists lists (object_judged page known from) (object_judged page next to) a.0 second,
+      right_parts lists lists lists (object_judged page known from) (object_judged page (known ++ object_place page from) to) a.0 second,
       (after, variable_grows Object last next (variable (says page from)) x (subst (λ k. BeginsWith k next) (sym after) (placed_begins Object (variable (says page to)) next)) first, b.1.1),
     )
 
@@ -80,10 +82,11 @@ pub filler_read : (dates : Dates) (page : Page) (known mid last : Variables) (fr
 filler_read dates page known mid last from value x y old new a b =
     let next = with_object page known from in
     let e = a.1.0 in
-    let second = subst (λ k. AreRight old (value_judged dates page k value) new) e b.0 in
+    let behind = subst (λ k. AreRight old (value_judged dates page k value) new) e b.0 in
+    let second = subst (λ js. AreRight old js new) (value_behind dates page known from value) behind in
     let after = subst (λ k. last ≡ with_value page k value) e b.1.0 in
     let first = subst (λ k. IsObject page k from x) e a.1.1 in (
-      right_parts old old new (object_judged page known from) (value_judged dates page next value) a.0 second,
+      right_parts old old new (object_judged page known from) (value_judged dates page (known ++ object_place page from) value) a.0 second,
       (after, variable_grows Object last next (variable (says page from)) x (subst (λ k. BeginsWith k next) (sym after) (placed_begins Value (variable (says page value)) next)) first, b.1.1),
     )
 

@@ -9,11 +9,11 @@ use Rattle.mast_tree.specs.declared.item.Item.{Item}
 use Rattle.mast_tree.specs.Growing.{BeginsWith}
 use Rattle.mast_tree.specs.Said.{Said, name, iri, text, tagged, binding, node}
 use Rattle.mast_tree.proofs.GrowingLemmas.{get_grows}
-use Rattle.mast_expressions.specs.Pages.{Page, says}
+use Rattle.mast_tree.specs.Pages.{Page, says}
 use Rattle.mast_constr.specs.declared.variables.Sort.{Sort}
 use Rattle.mast_constr.specs.declared.variables.Sort.TheVariants.{Object, Value}
-use Rattle.mast_constr.specs.Variables.{Variables, variable, sort_of, joined, placed, IsVariable}
-use Rattle.mast_constr.specs.inside.Atoms.{with_arguments, with_atom, with_atoms}
+use Rattle.mast_constr.specs.Variables.{Variables, variable, sort_of, IsVariable}
+use Rattle.mast_constr.specs.inside.Atoms.{joined, placed, with_arguments, with_atom, with_atoms}
 
 -- a list begins with itself
 pub begins_here : (known : Variables) → BeginsWith known known

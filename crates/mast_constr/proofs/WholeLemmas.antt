@@ -21,7 +21,7 @@ use Rattle.mast_tree.specs.MainNode.{Prefixes, HasParts, IsFrontBreach}
 use Rattle.mast_tree.specs.Said.{node}
 use Rattle.mast_tree.specs.Seen.{Document}
 use Rattle.mast_tree.proofs.JudgementLemmas.{right_parts, breach_first, breach_second}
-use Rattle.mast_expressions.specs.Pages.{Page, page_of, says}
+use Rattle.mast_tree.specs.Pages.{Page, page_of, says}
 use Rattle.mast_expressions.proofs.DateLemmas.{the_dates, are_dates}
 use Rattle.mast_expressions.proofs.ReadLemmas.{is_node}
 use Rattle.mast_constr.specs.Denials.{Dates, AreDenied, deny_judged}

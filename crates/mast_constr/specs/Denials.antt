@@ -21,25 +21,21 @@ use Rattle.mast_tree.specs.Judgements.{Judgement, breaks, numbers}
 use Rattle.mast_tree.specs.Said.{Said, node, line}
 use Rattle.mast_expressions.specs.Given.{IsNamed, IsClassIn, IsAttr}
 use Rattle.mast_expressions.specs.Judged.{named_judged, class_judged, attr_judged}
-use Rattle.mast_expressions.specs.Pages.{Page, says, IsNodeOf}
+use Rattle.mast_tree.specs.Pages.{Page, says, IsNodeOf}
 use Rattle.mast_constr.specs.declared.variables.Sort.TheVariants.{Object, Value}
-use Rattle.mast_constr.specs.Variables.{Variables, variable, place, same_name, placed, variable_judged, IsVariable}
+use Rattle.mast_constr.specs.Variables.{Variables, variable, place, same_name, variable_judged, IsVariable}
 
 -- the dates of texts
 abbrev pub Dates : Type 0
 Dates = List ℕ → Option Date
 
--- an argument in the place of an object: a variable
+-- an argument in the place of an object, behind these places: a variable
 abbrev pub object_judged : Page → Variables → Item → List Judgement
-object_judged page known item = variable_judged Object known (variable (says page item)) (line (says page item))
+object_judged page before item = variable_judged Object before (variable (says page item)) (line (says page item))
 
--- the variables once an item stood in the place of an object, or of a value
-abbrev pub with_object : Page → Variables → Item → Variables
-with_object page known item = placed Object (variable (says page item)) known
-
--- the same of a value
-abbrev pub with_value : Page → Variables → Item → Variables
-with_value page known item = placed Value (variable (says page item)) known
+-- the place of a variable that an item is in the place of an object
+abbrev pub object_place : Page → Item → Variables
+object_place page item = place Object (variable (says page item))
 
 -- a constant is numbered, or is a breach
 abbrev pub constant_judged : Result AValue ShapeBreach → ℕ → List Judgement
@@ -53,12 +49,13 @@ inner_line page at _ = at
 
 -- a value, by what its item says
 abbrev pub value_said : Dates → Page → Variables → Said → List Judgement
-value_said dates page known (node word at items) = constant_judged (constant_of dates page.doc (node word at items)) (inner_line page at items)
-value_said dates page known leaf = variable_judged Value known (variable leaf) (line leaf)
+value_said dates page before (node word at items) =
+    constant_judged (constant_of dates page.doc (node word at items)) (inner_line page at items)
+value_said dates page before leaf = variable_judged Value before (variable leaf) (line leaf)
 
 -- an argument in the place of a value: a variable or a constant
 abbrev pub value_judged : Dates → Page → Variables → Item → List Judgement
-value_judged dates page known item = value_said dates page known (says page item)
+value_judged dates page before item = value_said dates page before (says page item)
 
 -- the inside of the atom of this number, unless it is one too many
 abbrev pub unless_many : ℕ → ℕ → List Judgement → List Judgement
@@ -66,57 +63,58 @@ unless_many number at inside = if nat_lt number MOST_ATOMS then inside else brea
 
 -- a class and an object
 abbrev pub class_parts : Page → Variables → Item → Item → List Judgement
-class_parts page known class object = class_judged Shape page class ++ object_judged page known object
+class_parts page before class object = class_judged Shape page class ++ object_judged page before object
 
 -- what stands in `Class(..)` at a line, as the atom of a number: these two
 abbrev pub class_atom : Page → ℕ → Variables → ℕ → List Item → List Judgement
-class_atom page number known at (class ∷ object ∷ []) = unless_many number at (class_parts page known class object)
-class_atom page number known at _ = breaks Shape at ∷ []
+class_atom page number before at (class ∷ object ∷ []) = unless_many number at (class_parts page before class object)
+class_atom page number before at _ = breaks Shape at ∷ []
 
 -- two objects
 abbrev pub pair_judged : Page → Variables → Item → Item → List Judgement
-pair_judged page known from to = object_judged page known from ++ object_judged page (with_object page known from) to
+pair_judged page before from to = object_judged page before from ++ object_judged page (before ++ object_place page from) to
 
 -- a role and two objects
 abbrev pub role_parts : Page → Variables → Item → Item → Item → List Judgement
-role_parts page known role from to = named_judged Shape kinds.Role page role ++ pair_judged page known from to
+role_parts page before role from to = named_judged Shape kinds.Role page role ++ pair_judged page before from to
 
 -- what stands in `Role(..)`: these
 abbrev pub role_atom : Page → ℕ → Variables → ℕ → List Item → List Judgement
-role_atom page number known at (role ∷ from ∷ to ∷ []) = unless_many number at (role_parts page known role from to)
-role_atom page number known at _ = breaks Shape at ∷ []
+role_atom page number before at (role ∷ from ∷ to ∷ []) = unless_many number at (role_parts page before role from to)
+role_atom page number before at _ = breaks Shape at ∷ []
 
 -- an object and a value
 abbrev pub filler_judged : Dates → Page → Variables → Item → Item → List Judgement
-filler_judged dates page known from value = object_judged page known from ++ value_judged dates page (with_object page known from) value
+filler_judged dates page before from value =
+    object_judged page before from ++ value_judged dates page (before ++ object_place page from) value
 
 -- an attribute, an object and a value
 abbrev pub attr_parts : Dates → Page → Variables → Item → Item → Item → List Judgement
-attr_parts dates page known attr from value = attr_judged Shape page attr ++ filler_judged dates page known from value
+attr_parts dates page before attr from value = attr_judged Shape page attr ++ filler_judged dates page before from value
 
 -- what stands in `Attr(..)`: these
 abbrev pub attr_atom : Dates → Page → ℕ → Variables → ℕ → List Item → List Judgement
-attr_atom dates page number known at (attr ∷ from ∷ value ∷ []) = unless_many number at (attr_parts dates page known attr from value)
-attr_atom dates page number known at _ = breaks Shape at ∷ []
+attr_atom dates page number before at (attr ∷ from ∷ value ∷ []) = unless_many number at (attr_parts dates page before attr from value)
+attr_atom dates page number before at _ = breaks Shape at ∷ []
 
 -- an atom, by what its item says
 abbrev pub atom_said : Dates → Page → ℕ → Variables → Said → List Judgement
-atom_said dates page number known (node word at items) =
-    if bytes_eq word (codes "Class") then class_atom page number known at items
-    else if bytes_eq word (codes "Role") then role_atom page number known at items
-    else if bytes_eq word (codes "Attr") then attr_atom dates page number known at items
+atom_said dates page number before (node word at items) =
+    if bytes_eq word (codes "Class") then class_atom page number before at items
+    else if bytes_eq word (codes "Role") then role_atom page number before at items
+    else if bytes_eq word (codes "Attr") then attr_atom dates page number before at items
     else breaks Shape at ∷ []
-atom_said dates page number known other = breaks Shape (line other) ∷ []
+atom_said dates page number before other = breaks Shape (line other) ∷ []
 
--- an atom of a number, from 0, behind those with these variables
+-- an atom of a number, from 0, behind those with these places
 abbrev pub atom_judged : Dates → Page → ℕ → Variables → Item → List Judgement
-atom_judged dates page number known item = atom_said dates page number known (says page item)
+atom_judged dates page number before item = atom_said dates page number before (says page item)
 
 -- the places of variables in an atom, in order: its first item is an IRI
 abbrev pub places_inside : List ℕ → Page → List Item → Variables
-places_inside word page (class ∷ object ∷ []) = place Object (variable (says page object))
+places_inside word page (class ∷ object ∷ []) = object_place page object
 places_inside word page (property ∷ from ∷ to ∷ []) =
-    place Object (variable (says page from)) ++ place (if bytes_eq word (codes "Attr") then Value else Object) (variable (says page to))
+    object_place page from ++ place (if bytes_eq word (codes "Attr") then Value else Object) (variable (says page to))
 places_inside word page _ = []
 
 -- those of an atom, by what its item says
@@ -137,9 +135,9 @@ abbrev pub each_behind : {X Y : Type 0} → (List X → X → List Y) → List X
 each_behind f before [] = []
 each_behind f before (x ∷ xs) = f before x ++ each_behind f (before ++ x ∷ []) xs
 
--- an atom behind others: its number is theirs, and variables stand before it that they have
+-- an atom behind others: its number is how many they are, and their places stand before it
 abbrev pub atom_behind : Dates → Page → List Item → Item → List Judgement
-atom_behind dates page before item = atom_judged dates page (length before) (variables_of page before) item
+atom_behind dates page before item = atom_judged dates page (length before) (places page before) item
 
 -- atoms, in order
 abbrev pub atoms_judged : Dates → Page → List Item → List Judgement

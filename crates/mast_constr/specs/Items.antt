@@ -14,7 +14,7 @@ use Rattle.mast_tree.specs.Judgements.{Judgement, breaks}
 use Rattle.mast_tree.specs.Said.{Said, node, line}
 use Rattle.mast_expressions.specs.Given.{IsRole}
 use Rattle.mast_expressions.specs.Judged.{role_judged}
-use Rattle.mast_expressions.specs.Pages.{Page, says, IsNodeOf}
+use Rattle.mast_tree.specs.Pages.{Page, says, IsNodeOf}
 use Rattle.mast_constr.specs.Denials.{Dates, deny_judged, AreDenied}
 use Rattle.mast_constr.specs.Paths.{attribute_judged, identify_judged, IsAttrOf, AreIdentified}
 

@@ -10,11 +10,12 @@ use Rattle.mast_tbox.specs.declared.constraint.TheConstants.{MOST_ATOMS}
 use Rattle.mast_tbox.specs.Lists.{AreEach}
 use Rattle.mast_tree.specs.declared.item.Item.{Item}
 use Rattle.mast_tree.specs.declared.shape.ShapeKind.TheVariants.{Shape, Atoms}
+use Rattle.mast_tree.specs.Empty.{is_empty}
 use Rattle.mast_tree.specs.Judgements.{Judgement, breaks}
 use Rattle.mast_tree.specs.Said.{Said, name, iri, text, tagged, binding, node, line}
 use Rattle.mast_expressions.specs.Given.{IsClassIn, IsAttr, IsRole, IsLeft}
 use Rattle.mast_expressions.specs.Judged.{class_judged, attr_judged, role_judged, left_judged}
-use Rattle.mast_expressions.specs.Pages.{Page, says, IsNodeOf}
+use Rattle.mast_tree.specs.Pages.{Page, says, IsNodeOf}
 
 -- what stands in `Test(..)` at a line: a class
 abbrev pub test_judged : Page → ℕ → List Item → List Judgement
@@ -43,15 +44,10 @@ step_said last page item leaf = role_judged Shape page item
 abbrev pub step_judged : Bool → Page → Item → List Judgement
 step_judged last page item = step_said last page item (says page item)
 
--- no item
-abbrev pub is_none : List Item → Bool
-is_none [] = true
-is_none (item ∷ items) = false
-
 -- the steps of a path, in order
 abbrev pub steps_judged : Page → List Item → List Judgement
 steps_judged page [] = []
-steps_judged page (item ∷ items) = step_judged (is_none items) page item ++ steps_judged page items
+steps_judged page (item ∷ items) = step_judged (is_empty items) page item ++ steps_judged page items
 
 -- it looks like a role, an inverse role or an attribute: a leaf, an `ObjectInverseOf` node or an `Attr` node, right or wrong inside
 abbrev pub leads : Said → Bool

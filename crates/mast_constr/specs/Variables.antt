@@ -1,5 +1,5 @@
 -- The variables of a denial: `?` and an identifier, numbered in the order in which they first stand.
-use Rattle.std.specs.Prelude.{◌≡◌, ℕ, ◌==◌, ◌&&◌, Bool, if◌then◌else◌, List, [], ◌∷◌, ◌++◌, Option, Some, None, slice_get}
+use Rattle.std.specs.Prelude.{◌≡◌, ℕ, ◌==◌, ◌&&◌, Bool, if◌then◌else◌, List, [], ◌∷◌, Option, Some, None, slice_get}
 use Rattle.std.specs.Str.{bytes_eq}
 use Rattle.mast_cq.specs.declared.atom.Arg.{Arg}
 use Rattle.mast_cq.specs.declared.atom.Arg.TheVariants as arg
@@ -24,7 +24,7 @@ abbrev pub variable : Said → Option (List ℕ)
 variable (name word at) = variable_in word
 variable other = None
 
--- variables in the order of their numbers, each with the sort of its first place
+-- places of variables in their order, each with its sort; or variables by their numbers, each with the sort of its first place
 abbrev pub Variables : Type 0
 Variables = List (List ℕ × Sort)
 
@@ -37,20 +37,10 @@ place sort (Some x) = (x, sort) ∷ []
 abbrev pub same_name : List ℕ × Sort → List ℕ × Sort → Bool
 same_name v w = bytes_eq v.0 w.0
 
--- the sort of a variable that stands among them
+-- the sort of the first place of a variable among some places
 abbrev pub sort_of : List ℕ → Variables → Option Sort
 sort_of x [] = None
 sort_of x (v ∷ vs) = if bytes_eq x v.0 then Some v.1 else sort_of x vs
-
--- a variable that stands keeps its number, and a new one has the next
-abbrev pub joined : Sort → List ℕ → Option Sort → Variables → Variables
-joined sort x None known = known ++ (x, sort) ∷ []
-joined sort x (Some other) known = known
-
--- the variables once this stands in a place of the sort
-abbrev pub placed : Sort → Option (List ℕ) → Variables → Variables
-placed sort None known = known
-placed sort (Some x) known = joined sort x (sort_of x known) known
 
 -- a place of this sort, of a variable that first stands in a place of that sort
 abbrev pub sort_judged : Sort → Option Sort → ℕ → List Judgement
@@ -60,10 +50,10 @@ sort_judged Object (Some Value) at = breaks SortClash at ∷ []
 sort_judged Value (Some Object) at = breaks SortClash at ∷ []
 sort_judged Value (Some Value) at = []
 
--- what is judged of a variable in a place of this sort, at a line
+-- what is judged of a variable in a place of this sort, behind these places, at a line
 abbrev pub variable_judged : Sort → Variables → Option (List ℕ) → ℕ → List Judgement
-variable_judged sort known None at = breaks Shape at ∷ []
-variable_judged sort known (Some x) at = sort_judged sort (sort_of x known) at
+variable_judged sort before None at = breaks Shape at ∷ []
+variable_judged sort before (Some x) at = sort_judged sort (sort_of x before) at
 
 -- the argument is the variable, by its number, and its places have this sort
 abbrev pub IsVariable : Sort → Variables → Option (List ℕ) → Arg → Type 0

@@ -10,7 +10,7 @@ use Rattle.mast_tree.specs.declared.shape.ShapeBreach.{ShapeBreach}
 use Rattle.mast_tree.specs.Constants.{AreDates}
 use Rattle.mast_tree.specs.Judged.{Judging, IsRight, IsFirstBreach}
 use Rattle.mast_tree.specs.Seen.{Document}
-use Rattle.mast_expressions.specs.Pages.{page_of}
+use Rattle.mast_tree.specs.Pages.{page_of}
 use Rattle.mast_constr.specs.Denials.{Dates}
 use Rattle.mast_constr.specs.Items.{constraints_judged, AreConstraints}
 

@@ -5,12 +5,12 @@ ghost use Rattle.mast_constr.specs.Variables.{variable as variable_of};
 ghost use Rattle.mast_constr.specs.inside.Rules as rules;
 ghost use Rattle.mast_constr.specs.inside.Rules.{page_in, said_in};
 
-use crate::reader::{Reader, parted, shape};
+use crate::reader::{Reader, parted};
 use crate::variables::{Sort, Variables, variable_in};
 use mast_cq::{Arg, Atom};
 use mast_tbox::MOST_ATOMS;
 use mast_terms::{AddRefusal, List, NameKind, Stop, Value, Vocabulary};
-use mast_tree::{Item, Layer, ShapeBreach, ShapeKind};
+use mast_tree::{Item, Layer, ShapeBreach, ShapeKind, wrong};
 use std::alloc::Global;
 
 // Whether an atom of this number is one too many.
@@ -32,7 +32,7 @@ impl<'d> Reader<'d> {
         ensures { rules.ReadsDeny (page_in self.now) line items.now vocab.old vocab.new result }
     {
         match parted(items) {
-            None => Err(shape(line, ShapeKind::Shape)),
+            None => Err(wrong(line, ShapeKind::Shape)),
             Some(_) => self.all_atoms(alloc, vocab, items),
         }
     }
@@ -123,10 +123,10 @@ impl<'d> Reader<'d> {
                 } else if word == "Attr" {
                     self.attr_atom(alloc, vocab, variables, number, line, items)
                 } else {
-                    Err(shape(line, ShapeKind::Shape))
+                    Err(wrong(line, ShapeKind::Shape))
                 }
             }
-            _ => Err(shape(self.places.line(item), ShapeKind::Shape)),
+            _ => Err(wrong(self.places.line(item), ShapeKind::Shape)),
         }
     }
 
@@ -149,12 +149,12 @@ impl<'d> Reader<'d> {
         match items {
             [class, object] => {
                 if is_many(number) {
-                    Err(shape(line, ShapeKind::Atoms))
+                    Err(wrong(line, ShapeKind::Atoms))
                 } else {
                     self.class_parts(alloc, vocab, variables, class, object)
                 }
             }
-            _ => Err(shape(line, ShapeKind::Shape)),
+            _ => Err(wrong(line, ShapeKind::Shape)),
         }
     }
 
@@ -196,12 +196,12 @@ impl<'d> Reader<'d> {
         match items {
             [role, from, to] => {
                 if is_many(number) {
-                    Err(shape(line, ShapeKind::Atoms))
+                    Err(wrong(line, ShapeKind::Atoms))
                 } else {
                     self.role_parts(alloc, vocab, variables, role, from, to)
                 }
             }
-            _ => Err(shape(line, ShapeKind::Shape)),
+            _ => Err(wrong(line, ShapeKind::Shape)),
         }
     }
 
@@ -262,12 +262,12 @@ impl<'d> Reader<'d> {
         match items {
             [attr, from, value] => {
                 if is_many(number) {
-                    Err(shape(line, ShapeKind::Atoms))
+                    Err(wrong(line, ShapeKind::Atoms))
                 } else {
                     self.attr_parts(alloc, vocab, variables, attr, from, value)
                 }
             }
-            _ => Err(shape(line, ShapeKind::Shape)),
+            _ => Err(wrong(line, ShapeKind::Shape)),
         }
     }
 
@@ -334,7 +334,7 @@ impl<'d> Reader<'d> {
         let line = self.places.line(item);
         match self.variable(item) {
             Some(name) => variables.place(name, sort, line),
-            None => Err(shape(line, ShapeKind::Shape)),
+            None => Err(wrong(line, ShapeKind::Shape)),
         }
     }
 
@@ -399,8 +399,8 @@ impl<'d> Reader<'d> {
     {
         match vocab.add_value(alloc, value) {
             Ok(number) => Ok(Arg::Constant(number)),
-            Err(Stop::Named(AddRefusal::TwoKinds)) => Err(shape(line, ShapeKind::TwoKinds)),
-            Err(Stop::Named(AddRefusal::Full)) => Err(shape(line, ShapeKind::Names)),
+            Err(Stop::Named(AddRefusal::TwoKinds)) => Err(wrong(line, ShapeKind::TwoKinds)),
+            Err(Stop::Named(AddRefusal::Full)) => Err(wrong(line, ShapeKind::Names)),
             Err(Stop::NoMemory) => Err(Stop::NoMemory),
         }
     }

@@ -4,10 +4,10 @@ ghost use Rattle.mast_constr.specs.Paths as spec;
 ghost use Rattle.mast_constr.specs.inside.Rules as rules;
 ghost use Rattle.mast_constr.specs.inside.Rules.{page_in};
 
-use crate::reader::{Reader, is_none, parted, shape};
+use crate::reader::{Reader, is_empty, parted};
 use mast_tbox::{Basic, MOST_ATOMS, Step};
 use mast_terms::{List, Name, Stop, Vocabulary};
-use mast_tree::{Item, Layer, ShapeBreach, ShapeKind};
+use mast_tree::{Item, Layer, ShapeBreach, ShapeKind, wrong};
 use std::alloc::Global;
 
 impl<'d> Reader<'d> {
@@ -22,8 +22,8 @@ impl<'d> Reader<'d> {
         ensures { rules.ReadsIdentify (page_in self.now) line items.now vocab.old vocab.new result }
     {
         match items {
-            [] => Err(shape(line, ShapeKind::Shape)),
-            [_] => Err(shape(line, ShapeKind::Shape)),
+            [] => Err(wrong(line, ShapeKind::Shape)),
+            [_] => Err(wrong(line, ShapeKind::Shape)),
             [left, paths @ ..] => self.identified(alloc, vocab, line, left, paths),
         }
     }
@@ -40,7 +40,7 @@ impl<'d> Reader<'d> {
         ensures { rules.ReadsIdentified (page_in self.now) line left.now items.now vocab.old vocab.new result }
     {
         if self.are_many(items) {
-            return Err(shape(line, ShapeKind::Atoms));
+            return Err(wrong(line, ShapeKind::Atoms));
         }
         self.concept_paths(alloc, vocab, left, items)
     }
@@ -137,10 +137,10 @@ impl<'d> Reader<'d> {
                 if word == "Path" {
                     self.path_items(alloc, vocab, line, items)
                 } else {
-                    Err(shape(line, ShapeKind::Shape))
+                    Err(wrong(line, ShapeKind::Shape))
                 }
             }
-            _ => Err(shape(self.places.line(item), ShapeKind::Shape)),
+            _ => Err(wrong(self.places.line(item), ShapeKind::Shape)),
         }
     }
 
@@ -155,7 +155,7 @@ impl<'d> Reader<'d> {
         ensures { rules.ReadsPathItems (page_in self.now) line items.now vocab.old vocab.new result }
     {
         if !self.some_leads(items) {
-            return Err(shape(line, ShapeKind::Shape));
+            return Err(wrong(line, ShapeKind::Shape));
         }
         let mut steps = List::new(alloc);
         self.steps(alloc, vocab, items, &mut steps)?;
@@ -201,7 +201,7 @@ impl<'d> Reader<'d> {
         match parted(items) {
             None => Ok(()),
             Some((item, rest)) => {
-                match self.put_step(alloc, vocab, item, is_none(rest), steps) {
+                match self.put_step(alloc, vocab, item, is_empty(rest), steps) {
                     Err(stop) => Err(stop),
                     Ok(()) => self.steps(alloc, vocab, rest, steps),
                 }
@@ -273,7 +273,7 @@ impl<'d> Reader<'d> {
     {
         match items {
             [only] => self.places.class(alloc, vocab, only, ShapeKind::Shape),
-            _ => Err(shape(line, ShapeKind::Shape)),
+            _ => Err(wrong(line, ShapeKind::Shape)),
         }
     }
 
@@ -291,7 +291,7 @@ impl<'d> Reader<'d> {
         if last {
             self.attribute(alloc, vocab, line, items)
         } else {
-            Err(shape(line, ShapeKind::Shape))
+            Err(wrong(line, ShapeKind::Shape))
         }
     }
 
@@ -307,7 +307,7 @@ impl<'d> Reader<'d> {
     {
         match items {
             [only] => self.places.attr(alloc, vocab, only, ShapeKind::Shape),
-            _ => Err(shape(line, ShapeKind::Shape)),
+            _ => Err(wrong(line, ShapeKind::Shape)),
         }
     }
 }

@@ -1,10 +1,9 @@
 //! A document of constraints, and its items.
 ghost use Rattle.std.specs.Prelude.{◌≡◌, [], ◌∷◌, MatchOption, IfOk};
-ghost use Rattle.mast_terms.specs.declared.memory.Stop.TheVariants as stop;
+ghost use Rattle.mast_tree.specs.Empty.{is_empty as is_empty_list};
 ghost use Rattle.mast_tree.specs.Growing.{Begins};
 ghost use Rattle.mast_tree.specs.Seen.{seen};
 ghost use Rattle.mast_constr.specs.Kept.{AreKept};
-ghost use Rattle.mast_constr.specs.Paths.{is_none as is_none_of};
 ghost use Rattle.mast_constr.specs.Whole.{ReadsConstraints};
 ghost use Rattle.mast_constr.specs.inside.Rules as rules;
 ghost use Rattle.mast_constr.specs.inside.Rules.{page_in};
@@ -12,20 +11,13 @@ ghost use Rattle.mast_constr.specs.inside.Rules.{page_in};
 use mast_expressions::Places;
 use mast_tbox::{Constraint, Constraints, Lined, Prop};
 use mast_terms::{List, Stop, Vocabulary};
-use mast_tree::{Doc, Item, Layer, ShapeBreach, ShapeKind};
+use mast_tree::{Doc, Item, Layer, ShapeBreach, ShapeKind, wrong};
 use std::alloc::Global;
 
 // Reads the items of a document of constraints.
 #[derive(Clone, Copy)]
 pub(crate) struct Reader<'d> {
     pub(crate) places: Places<'d>,
-}
-
-// A breach at a line.
-pub(crate) fn shape(line: u32, kind: ShapeKind) -> Stop<ShapeBreach>
-    ensures { result ≡ stop.Named (record { line = line; kind = kind }) }
-{
-    Stop::Named(ShapeBreach { line, kind })
 }
 
 // The first item and those that follow it, if there is one.
@@ -39,8 +31,8 @@ pub(crate) fn parted(items: &[Item]) -> Option<(&Item, &[Item])>
 }
 
 // Whether there is none.
-pub(crate) fn is_none(items: &[Item]) -> bool
-    ensures { result ≡ is_none_of items.now }
+pub(crate) fn is_empty(items: &[Item]) -> bool
+    ensures { result ≡ is_empty_list items.now }
 {
     match items {
         [] => true,
@@ -108,10 +100,10 @@ impl<'d> Reader<'d> {
                     let atoms = self.deny(alloc, vocab, line, items)?;
                     Ok(Constraint::Deny { atoms })
                 } else {
-                    Err(shape(line, ShapeKind::Shape))
+                    Err(wrong(line, ShapeKind::Shape))
                 }
             }
-            _ => Err(shape(self.places.line(item), ShapeKind::Shape)),
+            _ => Err(wrong(self.places.line(item), ShapeKind::Shape)),
         }
     }
 
@@ -127,7 +119,7 @@ impl<'d> Reader<'d> {
     {
         match items {
             [only] => self.prop(alloc, vocab, only),
-            _ => Err(shape(line, ShapeKind::Shape)),
+            _ => Err(wrong(line, ShapeKind::Shape)),
         }
     }
 

@@ -6,7 +6,7 @@ ghost use Rattle.mast_constr.specs.inside.Shown.{shown_all};
 
 use mast_cq::Arg;
 use mast_terms::{NoMemory, Stop};
-use mast_tree::{ShapeBreach, ShapeKind, is_identifier};
+use mast_tree::{ShapeBreach, ShapeKind, is_identifier, wrong};
 use std::alloc::Global;
 use std::marker::Model;
 
@@ -112,10 +112,7 @@ fn same_sort(sort: Sort, first: Sort, number: usize, line: u32) -> Result<Arg, S
     requires { number < 64 }
     ensures { IsSame sort first number line result }
 {
-    let clash = Err(Stop::Named(ShapeBreach {
-        line,
-        kind: ShapeKind::SortClash,
-    }));
+    let clash = Err(wrong(line, ShapeKind::SortClash));
     match sort {
         Sort::Object => match first {
             Sort::Object => Ok(Arg::Var(number as u32)),

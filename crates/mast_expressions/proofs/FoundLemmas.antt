@@ -22,7 +22,8 @@ use Rattle.mast_tree.specs.Names.{is_standard, iri_judged}
 use Rattle.mast_tree.specs.Said.{Said, name, iri, text, tagged, binding, node, line}
 use Rattle.mast_tree.proofs.GrowingLemmas.{after_begins}
 use Rattle.mast_tree.proofs.JudgementLemmas.{after-append, first_breach-append}
-use Rattle.mast_expressions.specs.Pages.{Page, says, names, owl_thing, rdfs_literal, node_line, unless_node, expanded, Expands}
+use Rattle.mast_tree.specs.Pages.{Page, says, names, Expands}
+use Rattle.mast_expressions.specs.Iris.{owl_thing, rdfs_literal, node_line, unless_node, expanded}
 use Rattle.mast_expressions.specs.Judged.{named_judged, inverse_judged, role_said, role_judged, compared, is_iri_judged, some_judged, subjects_judged, left_iri, left_said, left_judged}
 use Rattle.mast_expressions.specs.Given.{IsNamed, IsInverseOf, IsRole, IsSomeOf, IsSubjectsOf, IsLeft}
 use Rattle.mast_expressions.proofs.GivenLemmas.{named_grows, role_grows}

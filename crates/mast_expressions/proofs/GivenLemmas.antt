@@ -11,7 +11,7 @@ use Rattle.mast_tbox.specs.declared.expression.RoleExpr.TheVariants.{Direct, Inv
 use Rattle.mast_tree.specs.declared.item.Item.{Item}
 use Rattle.mast_tree.specs.Growing.{Begins}
 use Rattle.mast_tree.proofs.GrowingLemmas.{name_grows}
-use Rattle.mast_expressions.specs.Pages.{Page}
+use Rattle.mast_tree.specs.Pages.{Page}
 use Rattle.mast_expressions.specs.Given.{IsNamed, IsInverseOf, IsRole, IsSomeOf, IsSubjectsOf, IsLeft}
 
 -- a name of a kind

@@ -10,10 +10,10 @@ use Rattle.mast_tbox.specs.declared.expression.Basic.TheVariants as basic
 use Rattle.mast_tbox.specs.declared.expression.RoleExpr.{RoleExpr}
 use Rattle.mast_tbox.specs.declared.expression.RoleExpr.TheVariants.{Direct, Inverse}
 use Rattle.mast_tbox.specs.Names.{RoleNamed, BasicNamed}
-use Rattle.mast_tbox.specs.Vocabularies.{StandsIn}
+use Rattle.mast_tree.specs.Names.{StandsIn}
 use Rattle.mast_tree.specs.declared.item.Item.{Item}
 use Rattle.mast_expressions.specs.Given.{IsNamed, IsInverseOf, IsRole, IsSomeOf, IsSubjectsOf, IsLeft}
-use Rattle.mast_expressions.specs.Pages.{Page}
+use Rattle.mast_tree.specs.Pages.{Page}
 
 -- a name
 pub named_known : (lists : Lists) (kind : NameKind) (page : Page) (item : Item) (name : Name) → IsNamed lists kind page item name → StandsIn lists kind name.0

@@ -16,7 +16,7 @@ use Rattle.mast_tree.specs.declared.token.Token.{Token}
 use Rattle.mast_tree.specs.MainNode.{Prefixes}
 use Rattle.mast_tree.specs.Prefixes.{iri_in}
 use Rattle.mast_tree.specs.Said.{Said, node, said_in}
-use Rattle.mast_expressions.specs.Pages.{Page, says, names, IsNodeOf}
+use Rattle.mast_tree.specs.Pages.{Page, says, names, IsNodeOf}
 use Rattle.mast_expressions.specs.Given.{IsNamed, IsInverseOf, IsRole, IsSomeOf, IsSubjectsOf, IsLeft}
 
 -- the IRIs of a kind are numbered

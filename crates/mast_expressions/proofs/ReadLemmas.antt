@@ -11,7 +11,7 @@ use Rattle.mast_tree.specs.declared.shape.ShapeBreach.{ShapeBreach}
 use Rattle.mast_tree.specs.Judgements.{Judgement, first_breach, AreRight, Judges}
 use Rattle.mast_tree.specs.Said.{node}
 use Rattle.mast_tree.proofs.JudgementLemmas.{breach_first, breach_second}
-use Rattle.mast_expressions.specs.Pages.{Page, says, IsNodeOf}
+use Rattle.mast_tree.specs.Pages.{Page, says, IsNodeOf}
 
 -- an item that says a node of a word that equals the wanted one
 pub is_node : (page : Page) (item : Item) (word wanted : List ℕ) (at : ℕ) (items : List Item)

@@ -10,7 +10,8 @@ use Rattle.mast_tbox.specs.declared.expression.RoleExpr.{RoleExpr}
 use Rattle.mast_tbox.specs.declared.expression.RoleExpr.TheVariants.{Direct, Inverse}
 use Rattle.mast_tree.specs.declared.item.Item.{Item}
 use Rattle.mast_tree.specs.Names.{IsName}
-use Rattle.mast_expressions.specs.Pages.{Page, IsNodeOf, Expands, owl_thing, rdfs_literal}
+use Rattle.mast_tree.specs.Pages.{Page, IsNodeOf, Expands}
+use Rattle.mast_expressions.specs.Iris.{owl_thing, rdfs_literal}
 
 -- the name of a kind that the item says
 abbrev pub IsNamed : Lists → NameKind → Page → Item → Name → Type 0
@@ -19,10 +20,6 @@ IsNamed lists kind page item name = IsName lists kind page.doc page.prefixes ite
 -- the class that the item says
 abbrev pub IsClassIn : Lists → Page → Item → Name → Type 0
 IsClassIn lists page item name = IsNamed lists kinds.Class page item name
-
--- the attribute that the item says
-abbrev pub IsAttr : Lists → Page → Item → Name → Type 0
-IsAttr lists page item name = IsNamed lists kinds.Attr page item name
 
 -- the role of which `ObjectInverseOf(..)` says the inverse: one IRI stands inside
 abbrev pub IsInverseOf : Lists → Page → List Item → Name → Type 0
@@ -34,6 +31,10 @@ abbrev pub IsRole : Lists → Page → Item → RoleExpr → Type 0
 IsRole lists page item (Direct p) = IsNamed lists kinds.Role page item p
 IsRole lists page item (Inverse p) =
     (items : List Item) × IsNodeOf page (codes "ObjectInverseOf") item items × IsInverseOf lists page items p
+
+-- the attribute that the item says
+abbrev pub IsAttr : Lists → Page → Item → Name → Type 0
+IsAttr lists page item name = IsNamed lists kinds.Attr page item name
 
 -- the role of which `ObjectSomeValuesFrom(..)` on a left side says that there is a filler: a role and owl:Thing stand inside
 abbrev pub IsSomeOf : Lists → Page → List Item → RoleExpr → Type 0

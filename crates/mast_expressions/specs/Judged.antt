@@ -11,7 +11,8 @@ use Rattle.mast_tree.specs.declared.shape.ShapeKind.TheVariants.{Shape, Datatype
 use Rattle.mast_tree.specs.Judgements.{Judgement, breaks}
 use Rattle.mast_tree.specs.Names.{iri_judged}
 use Rattle.mast_tree.specs.Said.{Said, node, line}
-use Rattle.mast_expressions.specs.Pages.{Page, says, names, owl_thing, rdfs_literal, expanded}
+use Rattle.mast_tree.specs.Pages.{Page, says, names}
+use Rattle.mast_expressions.specs.Iris.{owl_thing, rdfs_literal, expanded}
 
 -- an IRI as a name of a kind
 abbrev pub named_judged : ShapeKind → NameKind → Page → Item → List Judgement
@@ -20,10 +21,6 @@ named_judged other kind page item = iri_judged kind (expanded other page item) (
 -- Class: an IRI
 abbrev pub class_judged : ShapeKind → Page → Item → List Judgement
 class_judged other page item = named_judged other kinds.Class page item
-
--- Attr: an IRI
-abbrev pub attr_judged : ShapeKind → Page → Item → List Judgement
-attr_judged other page item = named_judged other kinds.Attr page item
 
 -- what stands in `ObjectInverseOf(..)` at a line: one IRI
 abbrev pub inverse_judged : Page → ℕ → List Item → List Judgement
@@ -43,6 +40,10 @@ role_said other page item leaf = named_judged other kinds.Role page item
 -- Role: an IRI, or `ObjectInverseOf` of one IRI
 abbrev pub role_judged : ShapeKind → Page → Item → List Judgement
 role_judged other page item = role_said other page item (says page item)
+
+-- Attr: an IRI
+abbrev pub attr_judged : ShapeKind → Page → Item → List Judgement
+attr_judged other page item = named_judged other kinds.Attr page item
 
 -- an IRI that is to be the wanted one; another is a breach of this kind
 abbrev pub compared : List ℕ → ShapeKind → Result (List ℕ) ShapeBreach → ℕ → List Judgement

@@ -1,4 +1,4 @@
-pub mod Pages
+pub mod Iris
 pub mod Judged
 pub mod Given
 pub mod Reads

@@ -14,7 +14,7 @@ use Rattle.mast_tree.specs.Seen.{seen}
 use Rattle.mast_expressions.specs.declared.places.Places.{Places}
 use Rattle.mast_expressions.specs.Given.{IsNamed, IsClassIn, IsAttr, IsRole, IsLeft}
 use Rattle.mast_expressions.specs.Judged.{named_judged, is_iri_judged, class_judged, attr_judged, role_judged, left_judged}
-use Rattle.mast_expressions.specs.Pages.{Page, page_of, Expands}
+use Rattle.mast_tree.specs.Pages.{Page, page_of, Expands}
 
 -- the page of the document of these places
 abbrev pub page : Places → Page
@@ -33,13 +33,13 @@ ReadsIri wanted other page item result =
 abbrev pub ReadsClass : ShapeKind → Page → Item → Lists → Lists → Result Name (Stop ShapeBreach) → Type 0
 ReadsClass other page item old new result = Judges old (class_judged other page item) new (IsClassIn new page item) result
 
--- an attribute was read
-abbrev pub ReadsAttr : ShapeKind → Page → Item → Lists → Lists → Result Name (Stop ShapeBreach) → Type 0
-ReadsAttr other page item old new result = Judges old (attr_judged other page item) new (IsAttr new page item) result
-
 -- a role was read
 abbrev pub ReadsRole : ShapeKind → Page → Item → Lists → Lists → Result RoleExpr (Stop ShapeBreach) → Type 0
 ReadsRole other page item old new result = Judges old (role_judged other page item) new (IsRole new page item) result
+
+-- an attribute was read
+abbrev pub ReadsAttr : ShapeKind → Page → Item → Lists → Lists → Result Name (Stop ShapeBreach) → Type 0
+ReadsAttr other page item old new result = Judges old (attr_judged other page item) new (IsAttr new page item) result
 
 -- a left side was read
 abbrev pub ReadsLeft : Page → Item → Lists → Lists → Result Basic (Stop ShapeBreach) → Type 0

@@ -1,16 +1,15 @@
 //! The places of documents, each with one method.
 ghost use Rattle.std.specs.Prelude.{◌≡◌};
-ghost use Rattle.mast_terms.specs.declared.memory.Stop.TheVariants as stop;
 ghost use Rattle.mast_tree.specs.Results.{Gives};
 ghost use Rattle.mast_tree.specs.Said.{said, line as line_said};
 ghost use Rattle.mast_tree.specs.Seen.{seen};
-ghost use Rattle.mast_expressions.specs.Pages as pages;
+ghost use Rattle.mast_expressions.specs.Iris as iris;
 ghost use Rattle.mast_expressions.specs.Reads.{page, ReadsNamed, ReadsIri, ReadsClass, ReadsAttr, ReadsRole, ReadsLeft};
 ghost use Rattle.mast_expressions.specs.inside.Parts as parts;
 
 use mast_tbox::{Basic, RoleExpr};
 use mast_terms::{Name, NameKind, Stop, Text, Vocabulary};
-use mast_tree::{Doc, Item, Layer, PrefixTable, ShapeBreach, ShapeKind};
+use mast_tree::{Doc, Item, Layer, PrefixTable, ShapeBreach, ShapeKind, wrong};
 use std::alloc::Global;
 
 /// A document and its prefixes. Each method reads an item of the document in one place, and adds the names that it uses
@@ -21,40 +20,12 @@ pub struct Places<'d> {
     pub prefixes: &'d PrefixTable,
 }
 
-// A breach at a line.
-fn shape(line: u32, kind: ShapeKind) -> Stop<ShapeBreach>
-    ensures { result ≡ stop.Named (record { line = line; kind = kind }) }
-{
-    Stop::Named(ShapeBreach { line, kind })
-}
-
 impl<'d> Places<'d> {
-    // The line of a node, and nothing of another item.
-    fn node_line(&self, item: &Item) -> Option<u32>
-        ensures { result ≡ pages.node_line (said (seen self.now.doc.now) item.now) }
-    {
-        match self.doc.layer(item) {
-            Layer::Name { .. } => None,
-            Layer::Iri { .. } => None,
-            Layer::Text { .. } => None,
-            Layer::Tagged { .. } => None,
-            Layer::Binding { .. } => None,
-            Layer::Node { line, .. } => Some(line),
-        }
-    }
-
     /// The line of an item's first token, from 1.
     pub fn line(&self, item: &Item) -> u32
         ensures { result ≡ line_said (said (seen self.now.doc.now) item.now) }
     {
-        match self.doc.layer(item) {
-            Layer::Name { line, .. } => line,
-            Layer::Iri { line, .. } => line,
-            Layer::Text { line, .. } => line,
-            Layer::Tagged { line } => line,
-            Layer::Binding { line } => line,
-            Layer::Node { line, .. } => line,
-        }
+        self.doc.item_line(item)
     }
 
     /// The IRI that an item names, where IRIs alone stand: a node is a breach of the kind `other`, and else what
@@ -65,11 +36,25 @@ impl<'d> Places<'d> {
         item: &Item,
         other: ShapeKind,
     ) -> Result<Text, Stop<ShapeBreach>>
-        ensures { Gives result (pages.expanded other (page self.now) item.now) }
+        ensures { Gives result (iris.expanded other (page self.now) item.now) }
     {
         match self.node_line(item) {
-            Some(line) => Err(shape(line, other)),
+            Some(line) => Err(wrong(line, other)),
             None => self.prefixes.expand(alloc, self.doc, item),
+        }
+    }
+
+    // The line of a node, and nothing of another item.
+    fn node_line(&self, item: &Item) -> Option<u32>
+        ensures { result ≡ iris.node_line (said (seen self.now.doc.now) item.now) }
+    {
+        match self.doc.layer(item) {
+            Layer::Name { .. } => None,
+            Layer::Iri { .. } => None,
+            Layer::Text { .. } => None,
+            Layer::Tagged { .. } => None,
+            Layer::Binding { .. } => None,
+            Layer::Node { line, .. } => Some(line),
         }
     }
 
@@ -85,7 +70,7 @@ impl<'d> Places<'d> {
         ensures { ReadsNamed other kind (page self.now) item.now vocab.old vocab.new result }
     {
         match self.node_line(item) {
-            Some(line) => Err(shape(line, other)),
+            Some(line) => Err(wrong(line, other)),
             None => self.prefixes.name(alloc, self.doc, item, kind, vocab),
         }
     }
@@ -101,19 +86,6 @@ impl<'d> Places<'d> {
         ensures { ReadsClass other (page self.now) item.now vocab.old vocab.new result }
     {
         self.named(alloc, vocab, item, NameKind::Class, other)
-    }
-
-    /// An attribute: an IRI. A node is a breach of the kind `other`.
-    pub fn attr(
-        &self,
-        alloc: Global,
-        vocab: &mut Vocabulary,
-        item: &Item,
-        other: ShapeKind,
-    ) -> Result<Name, Stop<ShapeBreach>>
-        ensures { ReadsAttr other (page self.now) item.now vocab.old vocab.new result }
-    {
-        self.named(alloc, vocab, item, NameKind::Attr, other)
     }
 
     /// A role: an IRI, or `ObjectInverseOf` of one IRI. Another node is a breach of the kind `other`, but inside an
@@ -132,7 +104,7 @@ impl<'d> Places<'d> {
                 if word == "ObjectInverseOf" {
                     Ok(RoleExpr::Inverse(self.inverse(alloc, vocab, line, items)?))
                 } else {
-                    Err(shape(line, other))
+                    Err(wrong(line, other))
                 }
             }
             _ => Ok(RoleExpr::Direct(self.named(alloc, vocab, item, NameKind::Role, other)?)),
@@ -151,8 +123,21 @@ impl<'d> Places<'d> {
     {
         match items {
             [only] => self.named(alloc, vocab, only, NameKind::Role, ShapeKind::NotDlLite),
-            _ => Err(shape(line, ShapeKind::Shape)),
+            _ => Err(wrong(line, ShapeKind::Shape)),
         }
+    }
+
+    /// An attribute: an IRI. A node is a breach of the kind `other`.
+    pub fn attr(
+        &self,
+        alloc: Global,
+        vocab: &mut Vocabulary,
+        item: &Item,
+        other: ShapeKind,
+    ) -> Result<Name, Stop<ShapeBreach>>
+        ensures { ReadsAttr other (page self.now) item.now vocab.old vocab.new result }
+    {
+        self.named(alloc, vocab, item, NameKind::Attr, other)
     }
 
     /// A left side: a class, `ObjectSomeValuesFrom(Role owl:Thing)` or `DataSomeValuesFrom(Attr rdfs:Literal)`.
@@ -174,11 +159,28 @@ impl<'d> Places<'d> {
                 } else if word == "DataSomeValuesFrom" {
                     Ok(Basic::Subjects(self.subjects(alloc, vocab, line, items)?))
                 } else {
-                    Err(shape(line, ShapeKind::NotDlLite))
+                    Err(wrong(line, ShapeKind::NotDlLite))
                 }
             }
             _ => Ok(Basic::Class(self.left_class(alloc, vocab, item)?)),
         }
+    }
+
+    // An IRI on a left side, which is no node: a class, and not owl:Thing.
+    fn left_class(
+        &self,
+        alloc: Global,
+        vocab: &mut Vocabulary,
+        item: &Item,
+    ) -> Result<Name, Stop<ShapeBreach>>
+        ensures { parts.ReadsLeftClass (page self.now) item.now vocab.old vocab.new result }
+    {
+        let iri = self.prefixes.expand(alloc, self.doc, item)?;
+        if iri.as_str() == "http://www.w3.org/2002/07/owl#Thing" {
+            return Err(wrong(self.line(item), ShapeKind::TopOnLeft));
+        }
+        self.prefixes
+            .name(alloc, self.doc, item, NameKind::Class, vocab)
     }
 
     // What stands in `ObjectSomeValuesFrom(..)` on a left side: a role and owl:Thing.
@@ -193,7 +195,7 @@ impl<'d> Places<'d> {
     {
         match items {
             [role, filler] => self.some_of(alloc, vocab, role, filler),
-            _ => Err(shape(line, ShapeKind::Shape)),
+            _ => Err(wrong(line, ShapeKind::Shape)),
         }
     }
 
@@ -229,7 +231,7 @@ impl<'d> Places<'d> {
     {
         match items {
             [attr, filler] => self.subjects_of(alloc, vocab, attr, filler),
-            _ => Err(shape(line, ShapeKind::Shape)),
+            _ => Err(wrong(line, ShapeKind::Shape)),
         }
     }
 
@@ -253,23 +255,6 @@ impl<'d> Places<'d> {
         Ok(attr)
     }
 
-    // An IRI on a left side, which is no node: a class, and not owl:Thing.
-    fn left_class(
-        &self,
-        alloc: Global,
-        vocab: &mut Vocabulary,
-        item: &Item,
-    ) -> Result<Name, Stop<ShapeBreach>>
-        ensures { parts.ReadsLeftClass (page self.now) item.now vocab.old vocab.new result }
-    {
-        let iri = self.prefixes.expand(alloc, self.doc, item)?;
-        if iri.as_str() == "http://www.w3.org/2002/07/owl#Thing" {
-            return Err(shape(self.line(item), ShapeKind::TopOnLeft));
-        }
-        self.prefixes
-            .name(alloc, self.doc, item, NameKind::Class, vocab)
-    }
-
     /// The wanted IRI; another is a breach of the kind `other`, and a node is NotDlLite.
     pub fn is_iri(
         &self,
@@ -284,7 +269,7 @@ impl<'d> Places<'d> {
         if iri.as_str() == wanted {
             Ok(())
         } else {
-            Err(shape(self.line(item), other))
+            Err(wrong(self.line(item), other))
         }
     }
 }

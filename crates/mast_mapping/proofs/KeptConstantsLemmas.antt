@@ -11,7 +11,7 @@ use Rattle.mast_tree.specs.declared.shape.ShapeBreach.{ShapeBreach}
 use Rattle.mast_tree.specs.declared.shape.ShapeKind.{ShapeKind}
 use Rattle.mast_tree.specs.declared.shape.ShapeKind.TheVariants as shape
 use Rattle.mast_tree.specs.Judged.{after_judged}
-use Rattle.mast_tree.specs.Judgements.{Judgement, uses, breaks, after, AreRight}
+use Rattle.mast_tree.specs.Judgements.{Judgement, uses, breaks, after, AreRight, breach_judged}
 use Rattle.mast_tree.specs.MainNode.{Prefixes}
 use Rattle.mast_tree.specs.Names.{is_standard, iri_judged, iri_named}
 use Rattle.mast_tree.specs.Said.{Said, name, iri, text, tagged, binding, node, line, said}
@@ -19,7 +19,7 @@ use Rattle.mast_tree.specs.Seen.{Document}
 use Rattle.mast_tree.proofs.JudgementLemmas.{after-append}
 use Rattle.mast_mapping.specs.Declarations.{table_in}
 use Rattle.mast_mapping.specs.Documents.{Entry, table, map, other, entry_of, table_judged, entry_judged, items_judged}
-use Rattle.mast_mapping.specs.Heads.{Scope, part_judged, object_of, slot_of, object_judged, value_judged, head_name_judged, items_of_head_judged, head_judged, heads_judged, head_kind}
+use Rattle.mast_mapping.specs.Heads.{Scope, object_of, slot_of, object_judged, value_judged, head_name_judged, items_of_head_judged, head_judged, heads_judged, head_kind}
 use Rattle.mast_mapping.specs.Maps.{query_of, scope_of, parts_judged, map_judged}
 use Rattle.mast_mapping.specs.OverTables.{table_names}
 use Rattle.mast_mapping.specs.Readings.{Texts}
@@ -50,7 +50,7 @@ iri_keeps k (Ok word) at = by (is_standard word)
     by true = break_keeps shape.NotDlLite at
     by false = use_keeps k word at
 
-part_keeps : {T : Type 0} (r : Result T ShapeBreach) → Keeps (part_judged r)
+part_keeps : {T : Type 0} (r : Result T ShapeBreach) → Keeps (breach_judged r)
 part_keeps (Ok x) lists = refl
 part_keeps (Err b) lists = refl
 

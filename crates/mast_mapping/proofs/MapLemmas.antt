@@ -15,7 +15,7 @@ use Rattle.mast_mapping.specs.Heads.{Scope, heads_judged, AreHeads}
 use Rattle.mast_mapping.specs.Maps.{query_right, query_read, query_of, outputs, parts_judged, map_judged, IsMap}
 use Rattle.mast_mapping.specs.Queries.{query_breach}
 use Rattle.mast_mapping.specs.Readings.{query, wrong, Texts, AreTexts, Reads}
-use Rattle.mast_mapping.specs.inside.Progress.{Page}
+use Rattle.mast_tree.specs.Pages.{Page}
 use Rattle.mast_mapping.proofs.QueryLemmas.{reading_is}
 
 module _ (texts : Texts) (are : AreTexts texts) (tables : List TableDecl) (s : Said) (chars given : List ℕ) (at : ℕ) (says : s ≡ text chars at) (same : given ≡ chars) where

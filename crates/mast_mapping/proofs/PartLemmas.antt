@@ -11,7 +11,7 @@ use Rattle.mast_tree.specs.declared.item.Item.{Item}
 use Rattle.mast_tree.specs.declared.shape.ShapeBreach.{ShapeBreach}
 use Rattle.mast_tree.specs.Constants.{constant_of}
 use Rattle.mast_tree.specs.Growing.{Begins}
-use Rattle.mast_tree.specs.Judgements.{Judgement, first_breach, after, or_later, AreRight, Judges}
+use Rattle.mast_tree.specs.Judgements.{Judgement, first_breach, after, or_later, AreRight, Judges, breach_judged}
 use Rattle.mast_tree.specs.Names.{IsName}
 use Rattle.mast_tree.specs.Results.{Gives}
 use Rattle.mast_tree.specs.Said.{Said, name, iri, text, tagged, binding, node, said}
@@ -21,16 +21,16 @@ use Rattle.mast_mapping.specs.declared.map.Head.{Head}
 use Rattle.mast_mapping.specs.declared.map.Head.TheVariants as head
 use Rattle.mast_mapping.specs.declared.map.Slot.{Slot}
 use Rattle.mast_mapping.specs.declared.map.Template.{Template}
-use Rattle.mast_mapping.specs.Heads.{Scope, constant_slot, part_judged, object_of, slot_of, object_judged, value_judged, head_name_judged, items_of_head_judged, head_judged, heads_judged, head_kind, IsHeadOf, IsHead, AreHeads}
+use Rattle.mast_mapping.specs.Heads.{Scope, constant_slot, object_of, slot_of, object_judged, value_judged, head_name_judged, items_of_head_judged, head_judged, heads_judged, head_kind, IsHeadOf, IsHead, AreHeads}
 use Rattle.mast_mapping.specs.inside.ReadHeads.{AreFar, ReadsItems, ReadsHead}
 
 -- nothing is wrong with a part that is there
-pub part_right : {T : Type 0} (old : Lists) (part : Result T ShapeBreach) (given : T) → part ≡ Ok given → AreRight old (part_judged part) old
+pub part_right : {T : Type 0} (old : Lists) (part : Result T ShapeBreach) (given : T) → part ≡ Ok given → AreRight old (breach_judged part) old
 part_right old (Ok p) given e = record { none = refl; then = refl }
 part_right old (Err b) given e = absurd (cc)
 
 -- what is wrong with a part is its breach
-pub part_wrong : {T : Type 0} (old : Lists) (part : Result T ShapeBreach) (breach : ShapeBreach) → part ≡ Err breach → first_breach old (part_judged part) ≡ Some breach
+pub part_wrong : {T : Type 0} (old : Lists) (part : Result T ShapeBreach) (breach : ShapeBreach) → part ≡ Err breach → first_breach old (breach_judged part) ≡ Some breach
 part_wrong old (Ok p) breach e = absurd (cc)
 part_wrong {T} old (Err b) breach e = ap (λ x. Some x) (err_in b breach e)
   where

@@ -20,7 +20,8 @@ use Rattle.mast_mapping.specs.Documents.{Entry, table, map, other, entry_of, tab
 use Rattle.mast_mapping.specs.Maps.{map_judged, IsMap, scope_of}
 use Rattle.mast_mapping.specs.OverTables.{table_names}
 use Rattle.mast_mapping.specs.Readings.{Texts}
-use Rattle.mast_mapping.specs.inside.Progress.{Page, IsTableBehind, IsMapBehind, IsBehind, BreaksBehind, rest_judged, RestSays, IsFar, IsInside}
+use Rattle.mast_mapping.specs.inside.Progress.{IsTableBehind, IsMapBehind, IsBehind, BreaksBehind, rest_judged, RestSays, IsFar, IsInside}
+use Rattle.mast_tree.specs.Pages.{Page}
 use Rattle.mast_mapping.proofs.PartLemmas.{heads_grow}
 
 -- a map is the same in a vocabulary that begins with its own

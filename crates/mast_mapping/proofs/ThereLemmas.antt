@@ -14,7 +14,7 @@ use Rattle.mast_tree.specs.declared.item.Item.{Item}
 use Rattle.mast_tree.specs.declared.shape.ShapeBreach.{ShapeBreach}
 use Rattle.mast_tree.specs.declared.shape.ShapeKind.TheVariants as shape
 use Rattle.mast_tree.specs.Growing.{Begins}
-use Rattle.mast_tree.specs.Judgements.{Judgement, uses, breaks, first_breach, after}
+use Rattle.mast_tree.specs.Judgements.{Judgement, uses, breaks, first_breach, after, breach_judged}
 use Rattle.mast_tree.specs.MainNode.{Prefixes}
 use Rattle.mast_tree.specs.Names.{is_standard, iri_judged, iri_named, name_judged, IsName}
 use Rattle.mast_tree.specs.Said.{Said, name, iri, text, tagged, binding, node, line, said}
@@ -26,7 +26,7 @@ use Rattle.mast_mapping.specs.declared.map.Head.TheVariants as head
 use Rattle.mast_mapping.specs.declared.map.Map.{Map}
 use Rattle.mast_mapping.specs.Declarations.{table_in}
 use Rattle.mast_mapping.specs.Documents.{Entry, table, map, other, entry_of, table_judged, entry_judged, items_judged, EntrySays, ItemsSay}
-use Rattle.mast_mapping.specs.Heads.{Scope, part_judged, object_of, slot_of, object_judged, value_judged, head_name_judged, items_of_head_judged, head_judged, heads_judged, head_kind, IsHeadOf, IsHead, AreHeads}
+use Rattle.mast_mapping.specs.Heads.{Scope, object_of, slot_of, object_judged, value_judged, head_name_judged, items_of_head_judged, head_judged, heads_judged, head_kind, IsHeadOf, IsHead, AreHeads}
 use Rattle.mast_mapping.specs.Maps.{query_of, scope_of, parts_judged, map_judged, IsMap}
 use Rattle.mast_mapping.specs.OverTables.{table_names}
 use Rattle.mast_mapping.specs.Readings.{Texts}
@@ -50,7 +50,7 @@ begins_second : (old lists : Lists) (first second : List Judgement) → Begins l
 begins_second old lists first second b = subst (λ x. Begins lists x) (after-append old first second) b
 
 -- a part without a breach is there
-pub part_there : {T : Type 0} (old : Lists) (part : Result T ShapeBreach) → first_breach old (part_judged part) ≡ None → (x : T) × (part ≡ Ok x)
+pub part_there : {T : Type 0} (old : Lists) (part : Result T ShapeBreach) → first_breach old (breach_judged part) ≡ None → (x : T) × (part ≡ Ok x)
 part_there old (Ok x) h = (x, refl)
 part_there old (Err b) h = absurd (cc)
 

@@ -16,7 +16,8 @@ use Rattle.mast_mapping.specs.Documents.{inside_judged, main_word, SaysMappings,
 use Rattle.mast_mapping.specs.InRange.{AreInRange}
 use Rattle.mast_mapping.specs.OverTables.{AreOverTables}
 use Rattle.mast_mapping.specs.Readings.{Texts}
-use Rattle.mast_mapping.specs.inside.Progress.{Page, rest_judged, IsInside}
+use Rattle.mast_mapping.specs.inside.Progress.{rest_judged, IsInside}
+use Rattle.mast_tree.specs.Pages.{page_of}
 use Rattle.mast_mapping.proofs.KeptConstantsLemmas.{constants_kept}
 use Rattle.mast_mapping.proofs.OverLemmas.{said_over_tables, said_in_range}
 
@@ -24,14 +25,10 @@ use Rattle.mast_mapping.proofs.OverLemmas.{said_over_tables, said_in_range}
 abbrev pub mappings_of : Contents → Mappings
 mappings_of now = record { vocab = now.vocab; tables = now.tables; maps = now.maps }
 
--- a document with its prefixes
-abbrev pub page : Document → Prefixes → Page
-page doc prefixes = record { doc = doc; prefixes = prefixes }
-
 module _ (texts : Texts) (doc : Document) (old : Lists) where
   module _ (prefixes : Prefixes) (inside rest : List Item) (parts : HasParts doc main_word prefixes inside rest) where
     -- nothing is wrong with the inside and what follows
-    pub whole_says : (now : Contents) → IsInside texts (page doc prefixes) old inside now → AreRight now.vocab (after_judged doc rest) now.vocab → SaysMappings texts doc old (mappings_of now)
+    pub whole_says : (now : Contents) → IsInside texts (page_of doc prefixes) old inside now → AreRight now.vocab (after_judged doc rest) now.vocab → SaysMappings texts doc old (mappings_of now)
     whole_says now is right = record {
       prefixes = prefixes;
       inside = inside;
@@ -42,7 +39,7 @@ module _ (texts : Texts) (doc : Document) (old : Lists) where
     }
 
     -- the inside is wrong
-    pub inside_breaks : (b : ShapeBreach) → first_breach old (rest_judged texts (page doc prefixes) [] inside) ≡ Some b → BreaksFirst texts doc old b
+    pub inside_breaks : (b : ShapeBreach) → first_breach old (rest_judged texts (page_of doc prefixes) [] inside) ≡ Some b → BreaksFirst texts doc old b
     inside_breaks b e = inr (record {
       prefixes = prefixes;
       inside = inside;
@@ -52,7 +49,7 @@ module _ (texts : Texts) (doc : Document) (old : Lists) where
     })
 
     -- what follows is wrong
-    pub after_breaks : (now : Contents) (b : ShapeBreach) → IsInside texts (page doc prefixes) old inside now → first_breach now.vocab (after_judged doc rest) ≡ Some b → BreaksFirst texts doc old b
+    pub after_breaks : (now : Contents) (b : ShapeBreach) → IsInside texts (page_of doc prefixes) old inside now → first_breach now.vocab (after_judged doc rest) ≡ Some b → BreaksFirst texts doc old b
     after_breaks now b is e = inr (record {
       prefixes = prefixes;
       inside = inside;

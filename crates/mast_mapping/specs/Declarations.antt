@@ -49,7 +49,8 @@ null_of (name word at) = if bytes_eq word (codes "Null") then Ok true else Err (
 null_of other = Err (shape_at (line other))
 
 -- a column of these parts, or the first breach among them
-abbrev pub column_of_parts : Result (List ℕ) ShapeBreach → Result Kind ShapeBreach → Result Bool ShapeBreach → Result Column ShapeBreach
+abbrev pub column_of_parts :
+    Result (List ℕ) ShapeBreach → Result Kind ShapeBreach → Result Bool ShapeBreach → Result Column ShapeBreach
 column_of_parts (Err breach) k null = Err breach
 column_of_parts (Ok word) (Err breach) null = Err breach
 column_of_parts (Ok word) (Ok k) (Err breach) = Err breach
@@ -70,17 +71,20 @@ column_of doc before (node word at items) =
 column_of doc before other = Err (shape_at (line other))
 
 -- what comes of the columns with one more, or its breach
-abbrev pub with_column : List Column → Result Column ShapeBreach → (List Column → Result (List Column) ShapeBreach) → Result (List Column) ShapeBreach
+abbrev pub with_column :
+    List Column → Result Column ShapeBreach → (List Column → Result (List Column) ShapeBreach) → Result (List Column) ShapeBreach
 with_column before (Err breach) later = Err breach
 with_column before (Ok column) later = later (before ++ column ∷ [])
 
 -- the columns that items declare behind these, or the first breach
 abbrev pub columns_of : Document → List Column → List Item → Result (List Column) ShapeBreach
 columns_of doc before [] = Ok before
-columns_of doc before (item ∷ items) = with_column before (column_of doc (column_names before) (said doc item)) (λ more. columns_of doc more items)
+columns_of doc before (item ∷ items) =
+    with_column before (column_of doc (column_names before) (said doc item)) (λ more. columns_of doc more items)
 
 -- a table of these parts, or the first breach among them
-abbrev pub table_of_parts : Result (List ℕ) ShapeBreach → Result (List ℕ) ShapeBreach → Result (List Column) ShapeBreach → Result TableDecl ShapeBreach
+abbrev pub table_of_parts :
+    Result (List ℕ) ShapeBreach → Result (List ℕ) ShapeBreach → Result (List Column) ShapeBreach → Result TableDecl ShapeBreach
 table_of_parts (Err breach) file columns = Err breach
 table_of_parts (Ok word) (Err breach) columns = Err breach
 table_of_parts (Ok word) (Ok file) (Err breach) = Err breach

@@ -50,11 +50,13 @@ items_judged texts doc prefixes before (item ∷ items) =
     entry_judged texts doc prefixes before (entry_of (said doc item)) (λ tables. items_judged texts doc prefixes tables items)
 
 -- what an item and those after it say: later tables and maps are told by `Later`
-abbrev pub EntrySays : Lists → Texts → Document → Prefixes → List TableDecl → Entry → List Map → (List TableDecl → List Map → Type 0) → Type 0
+abbrev pub EntrySays :
+    Lists → Texts → Document → Prefixes → List TableDecl → Entry → List Map → (List TableDecl → List Map → Type 0) → Type 0
 EntrySays lists texts doc prefixes before (table at items) maps Later =
     (one : TableDecl) × (table_in doc (table_names before) at items ≡ Ok one) × Later (before ++ one ∷ []) maps
 EntrySays lists texts doc prefixes before (map at items) [] Later = ⊥
-EntrySays lists texts doc prefixes before (map at items) (m ∷ maps) Later = IsMap lists texts doc prefixes before items m × Later before maps
+EntrySays lists texts doc prefixes before (map at items) (m ∷ maps) Later =
+    IsMap lists texts doc prefixes before items m × Later before maps
 EntrySays lists texts doc prefixes before (other at) maps Later = ⊥
 
 -- items behind tables say these tables in all, and these maps
@@ -62,7 +64,8 @@ abbrev pub ItemsSay : Lists → Texts → Document → Prefixes → List TableDe
 ItemsSay lists texts doc prefixes before [] tables [] = tables ≡ before
 ItemsSay lists texts doc prefixes before [] tables (m ∷ maps) = ⊥
 ItemsSay lists texts doc prefixes before (item ∷ items) tables maps =
-    EntrySays lists texts doc prefixes before (entry_of (said doc item)) maps (λ more rest. ItemsSay lists texts doc prefixes more items tables rest)
+    EntrySays lists texts doc prefixes before (entry_of (said doc item)) maps
+    (λ more rest. ItemsSay lists texts doc prefixes more items tables rest)
 
 -- what is judged inside the main node
 abbrev pub inside_judged : Texts → Document → Judging

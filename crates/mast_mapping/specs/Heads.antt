@@ -12,7 +12,7 @@ use Rattle.mast_tree.specs.declared.item.Item.{Item}
 use Rattle.mast_tree.specs.declared.shape.ShapeBreach.{ShapeBreach}
 use Rattle.mast_tree.specs.declared.shape.ShapeKind.TheVariants as shape
 use Rattle.mast_tree.specs.Constants.{identifier_of, constant_of}
-use Rattle.mast_tree.specs.Judgements.{Judgement, breaks}
+use Rattle.mast_tree.specs.Judgements.{Judgement, breaks, breach_judged}
 use Rattle.mast_tree.specs.MainNode.{Prefixes}
 use Rattle.mast_tree.specs.Names.{name_judged, IsName}
 use Rattle.mast_tree.specs.Prefixes.{shape_at}
@@ -72,11 +72,6 @@ abbrev pub object_of : Scope → Said → Result Template ShapeBreach
 object_of scope (node word at items) = if bytes_eq word (codes "Obj") then object_in scope at items else Err (shape_at at)
 object_of scope other = Err (shape_at (line other))
 
--- what is judged of a part that uses no name
-abbrev pub part_judged : {T : Type 0} → Result T ShapeBreach → List Judgement
-part_judged (Ok part) = []
-part_judged (Err breach) = breaks breach.kind breach.line ∷ []
-
 -- the kind of the name in a head of this word
 abbrev pub head_kind : List ℕ → Option NameKind
 head_kind word =
@@ -91,11 +86,11 @@ head_name_judged scope k item = name_judged k scope.doc scope.prefixes item
 
 -- what is judged of an object in a head
 abbrev pub object_judged : Scope → Item → List Judgement
-object_judged scope item = part_judged (object_of scope (said scope.doc item))
+object_judged scope item = breach_judged (object_of scope (said scope.doc item))
 
 -- what is judged of a value in a head
 abbrev pub value_judged : Scope → Item → List Judgement
-value_judged scope item = part_judged (slot_of scope (said scope.doc item))
+value_judged scope item = breach_judged (slot_of scope (said scope.doc item))
 
 -- `Class(IRI object)`, `Role(IRI object object)` or `Attr(IRI object slot)`: the items in their order
 abbrev pub items_of_head_judged : Scope → Option NameKind → ℕ → List Item → List Judgement

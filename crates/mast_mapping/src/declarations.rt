@@ -7,12 +7,12 @@ ghost use Rattle.mast_mapping.specs.OverTables.{table_names};
 ghost use Rattle.mast_mapping.specs.inside.Declared.{ReadsTable, ReadsColumns, ReadsColumn, names_of};
 ghost use Rattle.mast_mapping.specs.inside.Readers.{doc_of};
 
-use crate::doc_reader::{DocReader, wrong};
+use crate::doc_reader::DocReader;
 use crate::kind_index::KindIndex;
 use crate::table_index::TableIndex;
 use mast_tables::{Column, TableDecl};
 use mast_terms::{Kind, List, Stop, Text};
-use mast_tree::{Item, Layer, ShapeBreach, ShapeKind};
+use mast_tree::{Item, Layer, ShapeBreach, ShapeKind, wrong};
 use std::alloc::Global;
 
 impl<'r, 'a> DocReader<'r, 'a> {

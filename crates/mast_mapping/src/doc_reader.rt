@@ -8,7 +8,7 @@ ghost use Rattle.mast_mapping.specs.Declarations.{string_of};
 ghost use Rattle.mast_mapping.specs.inside.Readers.{doc_of, end_at};
 
 use mast_terms::{Stop, Text};
-use mast_tree::{Doc, Item, Layer, PrefixTable, ShapeBreach, ShapeKind};
+use mast_tree::{Doc, Item, Layer, PrefixTable, ShapeBreach, ShapeKind, wrong};
 use std::alloc::Global;
 
 /// A document with its prefixes.
@@ -18,26 +18,12 @@ pub(crate) struct DocReader<'r, 'a> {
     pub(crate) prefixes: &'r PrefixTable,
 }
 
-// A breach of a kind at a line.
-pub(crate) fn wrong(line: u32, kind: ShapeKind) -> Stop<ShapeBreach>
-    ensures { result ≡ stop.Named (record { line = line; kind = kind }) }
-{
-    Stop::Named(ShapeBreach { line, kind })
-}
-
 impl<'r, 'a> DocReader<'r, 'a> {
     // The line of an item.
     pub(crate) fn line(&self, item: &Item) -> u32
         ensures { result ≡ line_of (said (doc_of self.now) item.now) }
     {
-        match self.doc.layer(item) {
-            Layer::Name { line, .. } => line,
-            Layer::Iri { line, .. } => line,
-            Layer::Text { line, .. } => line,
-            Layer::Tagged { line } => line,
-            Layer::Binding { line } => line,
-            Layer::Node { line, .. } => line,
-        }
+        self.doc.item_line(item)
     }
 
     // A breach of a kind at an item.

@@ -7,11 +7,11 @@ ghost use Rattle.mast_mapping.specs.Heads as spec;
 ghost use Rattle.mast_mapping.specs.inside.Readers.{ByDates};
 ghost use Rattle.mast_mapping.specs.inside.ReadHeads.{ReadsHead, ReadsItems, ReadsHeads, constant_at, output_at};
 
-use crate::doc_reader::{DocReader, wrong};
+use crate::doc_reader::DocReader;
 use crate::name_index::NameIndex;
 use crate::{Head, Slot, Template};
 use mast_terms::{List, NameKind, Stop, Vocabulary};
-use mast_tree::{Item, Layer, ShapeBreach, ShapeKind};
+use mast_tree::{Item, Layer, ShapeBreach, ShapeKind, wrong};
 use std::alloc::Global;
 
 /// A document with its prefixes, and the outputs of a source query.

@@ -23,15 +23,15 @@ ghost use Rattle.mast_mapping.specs.Documents as spec;
 ghost use Rattle.mast_mapping.specs.InRange.{AreInRange};
 ghost use Rattle.mast_mapping.specs.OverTables.{AreOverTables};
 ghost use Rattle.mast_mapping.specs.Readings.{Texts, AreTexts};
-ghost use Rattle.mast_mapping.specs.inside.Progress.{page_of, ReadsMap, ReadsItem, ReadsEntry, ReadsInside};
+ghost use Rattle.mast_mapping.specs.inside.Progress.{page, ReadsMap, ReadsItem, ReadsEntry, ReadsInside};
 ghost use Rattle.mast_mapping.specs.inside.Readers.{ByTexts};
 
-use crate::doc_reader::{DocReader, wrong};
+use crate::doc_reader::DocReader;
 use crate::heads::HeadReader;
 use crate::table_index::TableIndex;
 use crate::{Map, Mappings};
 use mast_terms::{List, Stop, Vocabulary};
-use mast_tree::{Doc, Item, Layer, ShapeBreach, ShapeKind};
+use mast_tree::{Doc, Item, Layer, ShapeBreach, ShapeKind, wrong};
 use std::alloc::Global;
 
 // What was read of a main node so far.
@@ -85,7 +85,7 @@ impl<'r, 'a> DocReader<'r, 'a> {
         vocab: Vocabulary,
         items: &[Item],
     ) -> Result<Contents, Stop<ShapeBreach>>
-        ensures { ByTexts (λ t. ReadsInside t (page_of self.now) vocab items.now result) }
+        ensures { ByTexts (λ t. ReadsInside t (page self.now) vocab items.now result) }
     {
         let mut read = Contents {
             vocab,
@@ -105,7 +105,7 @@ impl<'r, 'a> DocReader<'r, 'a> {
         before: Contents,
         item: &Item,
     ) -> Result<Contents, Stop<ShapeBreach>>
-        ensures { ByTexts (λ t. ReadsItem t (page_of self.now) before item.now result) }
+        ensures { ByTexts (λ t. ReadsItem t (page self.now) before item.now result) }
     {
         match self.doc.layer(item) {
             Layer::Node { word, line, items } => {
@@ -129,7 +129,7 @@ impl<'r, 'a> DocReader<'r, 'a> {
         line: u32,
         items: &[Item],
     ) -> Result<Contents, Stop<ShapeBreach>>
-        ensures { ByTexts (λ t. ReadsEntry t (page_of self.now) before (spec.table line items.now) result) }
+        ensures { ByTexts (λ t. ReadsEntry t (page self.now) before (spec.table line items.now) result) }
     {
         let Contents {
             vocab,
@@ -153,7 +153,7 @@ impl<'r, 'a> DocReader<'r, 'a> {
         line: u32,
         items: &[Item],
     ) -> Result<Contents, Stop<ShapeBreach>>
-        ensures { ByTexts (λ t. ReadsEntry t (page_of self.now) before (spec.map line items.now) result) }
+        ensures { ByTexts (λ t. ReadsEntry t (page self.now) before (spec.map line items.now) result) }
     {
         let Contents {
             mut vocab,
@@ -178,7 +178,7 @@ impl<'r, 'a> DocReader<'r, 'a> {
         line: u32,
         items: &[Item],
     ) -> Result<Map, Stop<ShapeBreach>>
-        ensures { ByTexts (λ t. ReadsMap t (page_of self.now) tables.now line items.now vocab.old vocab.new result) }
+        ensures { ByTexts (λ t. ReadsMap t (page self.now) tables.now line items.now vocab.old vocab.new result) }
     {
         match items {
             [source, _, ..] => {

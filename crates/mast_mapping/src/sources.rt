@@ -15,7 +15,7 @@ ghost use Rattle.mast_mapping.specs.inside.Kinds as kinds;
 ghost use Rattle.mast_mapping.specs.inside.Sources as inside;
 ghost use Rattle.mast_mapping.specs.inside.Readers.{doc_of, ByTexts};
 
-use crate::doc_reader::{DocReader, wrong};
+use crate::doc_reader::DocReader;
 use crate::name_index::NameIndex;
 use crate::table_index::TableIndex;
 use mast_sql::{
@@ -23,7 +23,7 @@ use mast_sql::{
     read_source_query, sql_tokens,
 };
 use mast_terms::{Kind, List, Stop, Text, Value};
-use mast_tree::{Item, Layer, ShapeBreach, ShapeKind};
+use mast_tree::{Item, Layer, ShapeBreach, ShapeKind, wrong};
 use std::alloc::Global;
 
 impl<'r, 'a> DocReader<'r, 'a> {

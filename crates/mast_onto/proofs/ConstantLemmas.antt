@@ -1,5 +1,5 @@
 -- An ontology numbers no constant.
-use Rattle.std.proofs.Common.{◌≡◌, refl, sym, ap, ◌∙◌, ℕ, Bool, true, false, List, [], ◌∷◌, ◌++◌, Option, Some, None}
+use Rattle.std.proofs.Common.{◌≡◌, refl, ap, ◌∙◌, ℕ, Bool, true, false, List, [], ◌∷◌, ◌++◌, Option, Some, None}
 use Rattle.std.specs.Prelude.{⊤, Result, Ok, Err, codes, if◌then◌else◌}
 use Rattle.std.specs.List.{flat_map}
 use Rattle.std.specs.Str.{bytes_eq}
@@ -12,13 +12,14 @@ use Rattle.mast_tree.specs.declared.shape.ShapeBreach.{ShapeBreach}
 use Rattle.mast_tree.specs.declared.shape.ShapeKind.{ShapeKind}
 use Rattle.mast_tree.specs.declared.shape.ShapeKind.TheVariants as shape
 use Rattle.mast_tree.specs.Judged.{after_judged}
-use Rattle.mast_tree.specs.Judgements.{Judgement, uses, numbers, breaks, after, after_one}
+use Rattle.mast_tree.specs.Judgements.{Judgement, uses, numbers, breaks, after, after_one, breach_judged}
 use Rattle.mast_tree.specs.Names.{is_standard, iri_judged}
-use Rattle.mast_tree.specs.Said.{Said, name, iri, text, tagged, binding, node, line, said}
+use Rattle.mast_tree.specs.Said.{Said, name, iri, text, tagged, binding, node, line}
 use Rattle.mast_tree.specs.Seen.{Document}
-use Rattle.mast_expressions.specs.Pages.{Page, page_of, says, names, owl_thing, rdfs_literal, expanded}
-use Rattle.mast_expressions.specs.Judged.{named_judged, inverse_judged, role_node, role_said, role_judged, compared, is_iri_judged, some_judged, subjects_judged, left_node, left_iri, left_said, left_judged}
-use Rattle.mast_onto.specs.Axioms.{breach_judged, declares, declared_judged, member_judged, form_judged, axiom_judged, type_said}
+use Rattle.mast_tree.specs.Pages.{Page, page_of, says, names}
+use Rattle.mast_expressions.specs.Iris.{owl_thing, rdfs_literal, expanded}
+use Rattle.mast_expressions.specs.Judged.{named_judged, inverse_judged, role_said, role_judged, compared, is_iri_judged, some_judged, subjects_judged, left_iri, left_said, left_judged}
+use Rattle.mast_onto.specs.Axioms.{declared_judged, member_judged, form_judged, axiom_judged, type_said}
 use Rattle.mast_onto.specs.Nodes.{AxiomForm, nothing, declared, listed, below, range, wrong, axiom_form}
 use Rattle.mast_onto.specs.Ontologies.{is_iri, front_judged, behind_front, iris_judged, axioms, HasOntology}
 use Rattle.mast_onto.specs.Rights.{PartForm, thing, left, filled, complement, wrong as wrong_part, right_forms, part_judged}

@@ -1,40 +1,34 @@
 -- Where nothing is wrong with an item among the axioms, it states something.
-use Rattle.std.proofs.Common.{◌≡◌, refl, sym, ap, ◌∙◌, subst, ℕ, Bool, List, [], ◌∷◌, ◌++◌, Option}
-use Rattle.std.specs.Prelude.{Result, Ok, Err, None, Some}
+use Rattle.std.proofs.Common.{◌≡◌, refl, sym, subst, Bool, List, [], ◌∷◌, ◌++◌, Option}
+use Rattle.std.specs.Prelude.{Result, Ok, Err, None}
 use Rattle.std.specs.List.{flat_map}
 use Rattle.mast_terms.specs.declared.name.NameKind.TheVariants as kinds
 use Rattle.mast_terms.specs.declared.value.Kind.{Kind}
 use Rattle.mast_terms.specs.Vocabularies.{Lists}
-use Rattle.mast_tbox.specs.declared.axiom.Lined.{Lined}
 use Rattle.mast_tbox.specs.declared.expression.Basic.{Basic}
 use Rattle.mast_tbox.specs.Lists.{AreEach}
-use Rattle.mast_tree.specs.declared.item.Item.{Item}
 use Rattle.mast_tree.specs.declared.shape.ShapeBreach.{ShapeBreach}
 use Rattle.mast_tree.specs.declared.shape.ShapeKind.TheVariants.{NotDlLite}
-use Rattle.mast_tree.specs.Judgements.{Judgement, after, first_breach}
+use Rattle.mast_tree.specs.Judgements.{Judgement, after, first_breach, breach_judged}
 use Rattle.mast_tree.specs.Said.{line}
 use Rattle.mast_tree.proofs.GrowingLemmas.{after_begins}
 use Rattle.mast_tree.proofs.JudgementLemmas.{after-append}
-use Rattle.mast_expressions.specs.Pages.{Page, says}
+use Rattle.mast_tree.specs.Pages.{Page, says}
 use Rattle.mast_expressions.specs.Given.{IsNamed}
 use Rattle.mast_expressions.specs.Judged.{named_judged, role_judged}
 use Rattle.mast_expressions.proofs.FoundLemmas.{none_parts, named_found, role_found, left_found, role_behind, named_behind}
-use Rattle.mast_onto.specs.Axioms.{member_judged, form_judged, axiom_judged, breach_judged, type_said, turned_if, IsMember, IsSubject, IsAxiom}
-use Rattle.mast_onto.specs.Nodes.{AxiomForm, nothing, declared, listed, below, range, wrong, axiom_form}
+use Rattle.mast_onto.specs.Axioms.{member_judged, form_judged, axiom_judged, type_said, turned_if, IsMember, IsSubject, IsAxiom}
+use Rattle.mast_onto.specs.Nodes.{nothing, declared, listed, below, range, wrong, axiom_form}
 use Rattle.mast_onto.specs.Ontologies.{IsStated}
-use Rattle.mast_onto.specs.Rights.{PartForm, thing, left, filled, complement, wrong as wrong_part, right_forms, right_judged, part_judged, IsPart}
+use Rattle.mast_onto.specs.Rights.{thing, left, filled, complement, wrong as wrong_part, right_forms, right_judged, part_judged, IsPart}
 use Rattle.mast_onto.specs.Stated.{stated, subjects_of}
 use Rattle.mast_onto.specs.declared.form.Place.{Place}
 use Rattle.mast_onto.specs.declared.form.Place.TheVariants as place
-use Rattle.mast_onto.specs.declared.statement.Axiom.{Axiom}
 use Rattle.mast_onto.specs.declared.statement.Axiom.TheVariants.{Nothing, Listed, Below, Range}
-use Rattle.mast_onto.specs.declared.statement.Expression.{Expression}
 use Rattle.mast_onto.specs.declared.statement.Expression.TheVariants.{Concept, Role, Attr}
-use Rattle.mast_onto.specs.declared.statement.Part.{Part}
 use Rattle.mast_onto.specs.declared.statement.Part.TheVariants as part
-use Rattle.mast_onto.specs.declared.statement.Statement.{Statement}
 use Rattle.mast_onto.proofs.KeptLemmas.{part_kept, member_kept, subject_kept}
-use Rattle.mast_onto.proofs.LeadLemmas.{Kept, each_kept}
+use Rattle.mast_onto.proofs.LeadLemmas.{Kept}
 
 -- what is judged of an element, without a breach, gives something
 abbrev pub Found : {X Y : Type 0} → (X → List Judgement) → (Lists → X → Y → Type 0) → Type 0

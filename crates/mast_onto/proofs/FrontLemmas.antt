@@ -14,10 +14,10 @@ use Rattle.mast_tree.specs.Judgements.{after, first_breach, AreRight}
 use Rattle.mast_tree.specs.Said.{line}
 use Rattle.mast_tree.proofs.GrowingLemmas.{right_begins}
 use Rattle.mast_tree.proofs.JudgementLemmas.{right_parts}
-use Rattle.mast_expressions.specs.Pages.{Page, says}
+use Rattle.mast_tree.specs.Pages.{Page, says}
 use Rattle.mast_onto.specs.Axioms.{axiom_judged}
 use Rattle.mast_onto.specs.Lists.{together}
-use Rattle.mast_onto.specs.Ontologies.{IsStated, AreWithin, PassesHere, IsAtAxiom, IsBehindAll, IsBreachAmong, items_at}
+use Rattle.mast_onto.specs.Ontologies.{IsStated, AreWithin, PassesHere, IsBreachAmong, items_at}
 use Rattle.mast_onto.specs.inside.Stating.{IsBreachFrom}
 use Rattle.mast_onto.specs.declared.statement.Statement.{Statement}
 use Rattle.mast_onto.specs.declared.statements.TheConstants.{MOST_ITEMS}

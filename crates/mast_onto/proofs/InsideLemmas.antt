@@ -1,5 +1,5 @@
 -- What is read inside a main node, and what follows it.
-use Rattle.std.proofs.Common.{◌≡◌, ◌⊎◌, inl, inr, refl, sym, ap, ◌∙◌, subst, List, [], ◌++◌}
+use Rattle.std.proofs.Common.{◌≡◌, inl, inr, sym, ap, ◌∙◌, subst, List, [], ◌++◌}
 use Rattle.std.specs.Prelude.{Result, Ok, Err, Some}
 use Rattle.std.specs.List.{flat_map}
 use Rattle.std.specs.Result.{IsErrAnd}
@@ -12,7 +12,7 @@ use Rattle.mast_tree.specs.declared.shape.ShapeBreach.{ShapeBreach}
 use Rattle.mast_tree.specs.Judged.{after_judged}
 use Rattle.mast_tree.specs.Judgements.{Judgement, first_breach, AreRight, Judges}
 use Rattle.mast_tree.proofs.JudgementLemmas.{right_parts, breach_first, breach_second}
-use Rattle.mast_expressions.specs.Pages.{Page}
+use Rattle.mast_tree.specs.Pages.{Page}
 use Rattle.mast_onto.specs.Axioms.{axiom_judged}
 use Rattle.mast_onto.specs.Ontologies.{front_judged, behind_front, iris_judged, axioms, inside_judged, IsBreachAmong, IsBreachIn}
 use Rattle.mast_onto.specs.declared.statement.Statement.{Statement}

@@ -1,27 +1,19 @@
 -- What items give is kept by vocabularies that begin with theirs.
-use Rattle.std.proofs.Common.{◌≡◌, ℕ, Bool, List, [], ◌∷◌, Option}
+use Rattle.std.proofs.Common.{Bool}
 use Rattle.mast_terms.specs.declared.name.NameKind.TheVariants as kinds
-use Rattle.mast_terms.specs.Vocabularies.{Lists}
-use Rattle.mast_tbox.specs.declared.axiom.Lined.{Lined}
 use Rattle.mast_tbox.specs.declared.expression.Basic.{Basic}
-use Rattle.mast_tree.specs.declared.item.Item.{Item}
-use Rattle.mast_tree.specs.Growing.{Begins}
-use Rattle.mast_expressions.specs.Pages.{Page}
+use Rattle.mast_tree.specs.Pages.{Page}
 use Rattle.mast_expressions.proofs.GivenLemmas.{named_grows, role_grows, left_grows}
 use Rattle.mast_onto.specs.Axioms.{IsMember, IsSubject, IsAxiom}
-use Rattle.mast_onto.specs.Nodes.{AxiomForm, nothing, declared, listed, below, range, wrong}
+use Rattle.mast_onto.specs.Nodes.{nothing, declared, listed, below, range, wrong}
 use Rattle.mast_onto.specs.Ontologies.{IsStated}
-use Rattle.mast_onto.specs.Rights.{PartForm, thing, left, filled, complement, wrong as wrong_part, right_forms, IsPart}
+use Rattle.mast_onto.specs.Rights.{thing, left, filled, complement, wrong as wrong_part, right_forms, IsPart}
 use Rattle.mast_onto.specs.Nodes.{axiom_form}
 use Rattle.mast_onto.specs.declared.form.Place.{Place}
 use Rattle.mast_onto.specs.declared.form.Place.TheVariants as place
-use Rattle.mast_onto.specs.declared.statement.Axiom.{Axiom}
 use Rattle.mast_onto.specs.declared.statement.Axiom.TheVariants.{Nothing, Listed, Below, Range}
-use Rattle.mast_onto.specs.declared.statement.Expression.{Expression}
 use Rattle.mast_onto.specs.declared.statement.Expression.TheVariants.{Concept, Role, Attr}
-use Rattle.mast_onto.specs.declared.statement.Part.{Part}
 use Rattle.mast_onto.specs.declared.statement.Part.TheVariants as part
-use Rattle.mast_onto.specs.declared.statement.Statement.{Statement}
 use Rattle.mast_onto.proofs.LeadLemmas.{Kept, each_kept}
 
 -- a part

@@ -1,9 +1,8 @@
 -- The vocabulary has each name of what axioms state.
-use Rattle.std.proofs.Common.{◌≡◌, refl, sym, ap, ◌∙◌, subst, ℕ, zero, suc, ◌<◌, Bool, true, false, List, [], ◌∷◌, ◌++◌, length, Option, Some, None, arith}
-use Rattle.std.specs.Prelude.{⊤, slice_get, if◌then◌else◌}
+use Rattle.std.proofs.Common.{sym, subst, ℕ, Bool, true, false, List, [], ◌∷◌, ◌++◌, Option, Some, None}
+use Rattle.std.specs.Prelude.{⊤, if◌then◌else◌}
 use Rattle.std.specs.List.{AllByRecursion}
 use Rattle.mast_terms.specs.declared.name.Name.{Name}
-use Rattle.mast_terms.specs.declared.name.NameKind.{NameKind}
 use Rattle.mast_terms.specs.declared.name.NameKind.TheVariants as kinds
 use Rattle.mast_terms.specs.declared.value.Kind.{Kind}
 use Rattle.mast_terms.specs.Vocabularies.{Lists}
@@ -13,17 +12,16 @@ use Rattle.mast_tbox.specs.declared.axiom.Negative.{Negative}
 use Rattle.mast_tbox.specs.declared.axiom.Lined.{Lined}
 use Rattle.mast_tbox.specs.declared.expression.Basic.{Basic}
 use Rattle.mast_tbox.specs.declared.expression.Basic.TheVariants as basic
-use Rattle.mast_tbox.specs.declared.expression.Prop.{Prop}
 use Rattle.mast_tbox.specs.declared.expression.RoleExpr.{RoleExpr}
 use Rattle.mast_tbox.specs.declared.expression.RoleExpr.TheVariants.{Direct, Inverse}
 use Rattle.mast_tbox.specs.declared.tbox.Ontology.{Ontology}
 use Rattle.mast_tbox.specs.Expressions.{same_basic, inverse_role}
 use Rattle.mast_tbox.specs.Lists.{items, AreEach}
 use Rattle.mast_tbox.specs.Names.{BasicNamed, RoleNamed, PropNamed, InclusionNamed, NegativeNamed}
-use Rattle.mast_tbox.specs.Vocabularies.{StandsIn}
+use Rattle.mast_tree.specs.Names.{StandsIn}
 use Rattle.mast_tree.specs.declared.item.Item.{Item}
 use Rattle.mast_tree.specs.Seen.{Document}
-use Rattle.mast_expressions.specs.Pages.{Page, page_of}
+use Rattle.mast_tree.specs.Pages.{Page, page_of}
 use Rattle.mast_expressions.proofs.KnownLemmas.{named_known, role_known, left_known}
 use Rattle.mast_onto.specs.Axioms.{IsMember, IsSubject, IsAxiom, turned_if}
 use Rattle.mast_onto.specs.Known.{HasNames}

@@ -1,6 +1,6 @@
 -- A document has an ontology or a first breach, not both, and only one of it.
-use Rattle.std.proofs.Common.{◌≡◌, ◌⊎◌, inl, inr, refl, sym, ap, ◌∙◌, subst, ℕ, ◌+◌, ◌<◌, ◌≤◌, List, [], ◌∷◌, ◌++◌, length, append_assoc, Option, arith}
-use Rattle.std.specs.Prelude.{None, Some, codes}
+use Rattle.std.proofs.Common.{◌≡◌, ◌⊎◌, inl, inr, refl, sym, ◌∙◌, subst, ℕ, ◌+◌, ◌<◌, ◌≤◌, List, [], ◌∷◌, ◌++◌, length, append_assoc, Option, arith}
+use Rattle.std.specs.Prelude.{None, Some}
 use Rattle.std.specs.List.{flat_map}
 use Rattle.std.proofs.lemmas.Bool.Decides.{leb_tells}
 use Rattle.std.proofs.lemmas.List.{length-append}
@@ -12,10 +12,9 @@ use Rattle.mast_tree.specs.declared.shape.ShapeBreach.{ShapeBreach}
 use Rattle.mast_tree.specs.Judged.{after_judged}
 use Rattle.mast_tree.specs.Judgements.{Judgement, after, first_breach, AreRight}
 use Rattle.mast_tree.specs.Said.{line}
-use Rattle.mast_tree.specs.Seen.{Document}
 use Rattle.mast_tree.proofs.GrowingLemmas.{right_begins}
-use Rattle.mast_tree.proofs.JudgementLemmas.{after-append, first_breach-append, right_parts}
-use Rattle.mast_expressions.specs.Pages.{Page, says}
+use Rattle.mast_tree.proofs.JudgementLemmas.{after-append, right_parts}
+use Rattle.mast_tree.specs.Pages.{Page, says}
 use Rattle.mast_expressions.proofs.FoundLemmas.{none_parts}
 use Rattle.mast_tree.proofs.VocabularyLemmas.{after_lawful}
 use Rattle.mast_onto.specs.Axioms.{axiom_judged}

@@ -1,5 +1,5 @@
 -- Elements that are read one by one.
-use Rattle.std.proofs.Common.{◌≡◌, refl, sym, ap, ◌∙◌, subst, ℕ, List, [], ◌∷◌, ◌++◌, append_assoc, append-nil}
+use Rattle.std.proofs.Common.{◌≡◌, refl, sym, subst, List, [], ◌∷◌, ◌++◌, append_assoc, append-nil}
 use Rattle.std.specs.Prelude.{Some, Err}
 use Rattle.std.specs.List.{flat_map}
 use Rattle.mast_terms.specs.Vocabularies.{Lists}

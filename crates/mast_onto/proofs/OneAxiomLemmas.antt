@@ -1,5 +1,5 @@
 -- What an item among the axioms states is one thing.
-use Rattle.std.proofs.Common.{◌≡◌, refl, sym, ap, ◌∙◌, subst, ℕ, Bool, List, [], ◌∷◌, Option}
+use Rattle.std.proofs.Common.{◌≡◌, refl, sym, ap, ◌∙◌, ℕ, Bool, List, Option}
 use Rattle.std.specs.Prelude.{Result, Ok}
 use Rattle.mast_terms.specs.declared.name.Name.{Name}
 use Rattle.mast_terms.specs.declared.name.NameKind.{NameKind}
@@ -15,7 +15,7 @@ use Rattle.mast_tree.specs.declared.item.Item.{Item}
 use Rattle.mast_tree.specs.declared.shape.ShapeBreach.{ShapeBreach}
 use Rattle.mast_tree.specs.declared.shape.ShapeKind.{ShapeKind}
 use Rattle.mast_tree.specs.Said.{line}
-use Rattle.mast_expressions.specs.Pages.{Page, says}
+use Rattle.mast_tree.specs.Pages.{Page, says}
 use Rattle.mast_expressions.specs.Given.{IsClassIn, IsAttr, IsRole, IsLeft}
 use Rattle.mast_expressions.proofs.OneLemmas.{named_one, role_one, left_one}
 use Rattle.mast_onto.specs.Axioms.{IsMember, IsSubject, IsAxiom, turned_if, type_said}

@@ -1,6 +1,6 @@
 -- What is read by calls in sequence.
-use Rattle.std.proofs.Common.{◌≡◌, ◌⊎◌, inl, inr, refl, sym, ap, ◌∙◌, subst, ℕ, ◌<◌, List, [], ◌∷◌, ◌++◌, length}
-use Rattle.std.specs.Prelude.{Result, Ok, Err, Some, None}
+use Rattle.std.proofs.Common.{◌≡◌, inl, inr, sym, ap, ◌∙◌, subst, ℕ, List}
+use Rattle.std.specs.Prelude.{Result, Ok, Err, Some}
 use Rattle.std.specs.Result.{IsErrAnd}
 use Rattle.mast_terms.specs.declared.memory.Stop.{Stop}
 use Rattle.mast_terms.specs.declared.memory.Stop.TheVariants.{Named, NoMemory}
@@ -8,19 +8,18 @@ use Rattle.mast_terms.specs.Vocabularies.{Lists}
 use Rattle.mast_tbox.specs.declared.axiom.Lined.{Lined}
 use Rattle.mast_tree.specs.declared.item.Item.{Item}
 use Rattle.mast_tree.specs.declared.shape.ShapeBreach.{ShapeBreach}
-use Rattle.mast_tree.specs.Judgements.{Judgement, first_breach, after, AreRight, Judges}
+use Rattle.mast_tree.specs.Judgements.{first_breach, after, AreRight, Judges, breach_judged}
 use Rattle.mast_tree.specs.Results.{Gives}
 use Rattle.mast_tree.specs.Said.{line}
-use Rattle.mast_expressions.specs.Pages.{Page, says}
-use Rattle.mast_onto.specs.Axioms.{breach_judged, form_judged, axiom_judged, IsAxiom}
+use Rattle.mast_tree.specs.Pages.{Page, says}
+use Rattle.mast_onto.specs.Axioms.{form_judged, IsAxiom}
 use Rattle.mast_onto.specs.Nodes.{AxiomForm, axiom_form}
-use Rattle.mast_onto.specs.Ontologies.{items_at, PassesHere}
+use Rattle.mast_onto.specs.Ontologies.{items_at}
 use Rattle.mast_onto.specs.Stated.{stated}
 use Rattle.mast_onto.specs.declared.statement.Axiom.{Axiom}
 use Rattle.mast_onto.specs.declared.statement.Statement.{Statement}
-use Rattle.mast_onto.specs.declared.statements.TheConstants.{MOST_ITEMS}
 use Rattle.mast_onto.specs.inside.Growing.{Adds}
-use Rattle.mast_onto.specs.inside.Stating.{ReadsStated, StatesOne}
+use Rattle.mast_onto.specs.inside.Stating.{ReadsStated}
 
 right_value : {T : Type 0} (lists : Lists) (e : Result T ShapeBreach) (x : T) → e ≡ Ok x → AreRight lists (breach_judged e) lists
 right_value lists e x h = record {

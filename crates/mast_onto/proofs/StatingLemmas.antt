@@ -1,5 +1,5 @@
 -- Axioms that are read one by one, within the limit.
-use Rattle.std.proofs.Common.{◌≡◌, ◌⊎◌, inl, inr, refl, sym, ap, ◌∙◌, subst, ℕ, ◌+◌, ◌<◌, ◌≤◌, List, [], ◌∷◌, ◌++◌, length, append_assoc, append-nil, arith}
+use Rattle.std.proofs.Common.{◌≡◌, ◌⊎◌, inl, inr, refl, sym, ap, ◌∙◌, subst, ◌+◌, ◌<◌, ◌≤◌, List, [], ◌∷◌, ◌++◌, length, append_assoc, append-nil}
 use Rattle.std.specs.Prelude.{Result, Ok, Err, Some}
 use Rattle.std.specs.List.{flat_map}
 use Rattle.std.specs.Result.{IsErrAnd}
@@ -8,16 +8,15 @@ use Rattle.mast_terms.specs.declared.memory.Stop.TheVariants.{Named, NoMemory}
 use Rattle.std.proofs.lemmas.List.{length-append}
 use Rattle.mast_terms.specs.Vocabularies.{Lists}
 use Rattle.mast_tbox.specs.declared.axiom.Lined.{Lined}
-use Rattle.mast_tbox.specs.Lists.{AreEach}
 use Rattle.mast_tree.specs.declared.item.Item.{Item}
 use Rattle.mast_tree.specs.declared.shape.ShapeBreach.{ShapeBreach}
 use Rattle.mast_tree.specs.Judgements.{first_breach, AreRight}
 use Rattle.mast_tree.proofs.GrowingLemmas.{right_begins}
 use Rattle.mast_tree.proofs.JudgementLemmas.{right_parts}
-use Rattle.mast_expressions.specs.Pages.{Page}
+use Rattle.mast_tree.specs.Pages.{Page}
 use Rattle.mast_onto.specs.Axioms.{axiom_judged}
 use Rattle.mast_onto.specs.Lists.{together}
-use Rattle.mast_onto.specs.Ontologies.{IsStated, PassesHere}
+use Rattle.mast_onto.specs.Ontologies.{PassesHere}
 use Rattle.mast_onto.specs.declared.statement.Statement.{Statement}
 use Rattle.mast_onto.specs.declared.statements.Statements.{Statements}
 use Rattle.mast_onto.specs.declared.statements.TheConstants.{MOST_ITEMS}

@@ -1,9 +1,8 @@
 -- Whole documents: an ontology or a first breach, not both, and only one of it.
-use Rattle.std.proofs.Common.{◌≡◌, ◌⊎◌, inl, inr, refl, sym, ap, ◌∙◌, subst, ℕ, zero, ◌+◌, ◌<◌, ◌≤◌, Bool, true, false, List, [], ◌∷◌, ◌++◌, length, append_assoc, Option, arith}
+use Rattle.std.proofs.Common.{◌≡◌, ◌⊎◌, inl, inr, refl, sym, ap, ◌∙◌, subst, ℕ, ◌+◌, ◌≤◌, Bool, true, false, List, [], ◌∷◌, ◌++◌, length, append_assoc, Option, arith}
 use Rattle.std.specs.Prelude.{None, Some, Ok, Err, Result, codes, if◌then◌else◌}
 use Rattle.std.specs.List.{flat_map}
 use Rattle.mast_terms.specs.Vocabularies.{Lists, IsVocabulary}
-use Rattle.mast_tbox.specs.declared.axiom.Inclusion.{Inclusion}
 use Rattle.mast_tbox.specs.declared.axiom.Lined.{Lined}
 use Rattle.mast_tbox.specs.declared.tbox.Ontology.{Ontology}
 use Rattle.mast_tbox.specs.Lists.{AreEach}
@@ -11,23 +10,21 @@ use Rattle.mast_tbox.proofs.EachLemmas.{each_one}
 use Rattle.mast_tree.specs.declared.item.Item.{Item}
 use Rattle.mast_tree.specs.declared.shape.ShapeBreach.{ShapeBreach}
 use Rattle.mast_tree.specs.Judged.{after_judged}
-use Rattle.mast_tree.specs.Judgements.{Judgement, after, first_breach, AreRight}
+use Rattle.mast_tree.specs.Judgements.{after, first_breach, AreRight, breach_judged}
 use Rattle.mast_tree.specs.Laws.{HasOnePrologue}
 use Rattle.mast_tree.specs.MainNode.{Prefixes, HasParts}
 use Rattle.mast_tree.specs.Prologue.{IsPrologue, IsPrologueBreach}
 use Rattle.mast_tree.specs.Seen.{Document}
 use Rattle.mast_tree.proofs.JudgedLemmas.{one_prefixes, one_inside}
-use Rattle.mast_tree.proofs.JudgementLemmas.{after-append, right_parts, breach_first, breach_second}
+use Rattle.mast_tree.proofs.JudgementLemmas.{after-append, right_parts}
 use Rattle.mast_tree.proofs.MainNodeLemmas.{main_is_found}
 use Rattle.mast_tree.proofs.PrologueLemmas.{has_one_prologue}
-use Rattle.mast_expressions.specs.Pages.{Page, page_of, says, names}
-use Rattle.mast_expressions.proofs.FoundLemmas.{none_parts}
-use Rattle.mast_onto.specs.Axioms.{breach_judged, axiom_judged}
+use Rattle.mast_tree.specs.Pages.{Page, page_of, says, names}
+use Rattle.mast_onto.specs.Axioms.{axiom_judged}
 use Rattle.mast_onto.specs.Lists.{together}
-use Rattle.mast_onto.specs.Numbered.{inclusions_in, negatives_in, functional_in, numbered, if_inclusion, if_negative, if_functional, next_number}
-use Rattle.mast_onto.specs.Ontologies.{is_iri, front_judged, behind_front, iris_judged, inside_judged, axioms, ontology_judged, IsStated, HasStatements, HasOntology, IsBreachIn, IsInnerBreach, IsOntologyBreach, AreSame, OntologyLaw}
+use Rattle.mast_onto.specs.Numbered.{inclusions_in, negatives_in, functional_in, numbered}
+use Rattle.mast_onto.specs.Ontologies.{is_iri, front_judged, behind_front, iris_judged, inside_judged, axioms, IsStated, HasOntology, IsBreachIn, IsOntologyBreach, AreSame, OntologyLaw}
 use Rattle.mast_onto.specs.declared.statement.Statement.{Statement}
-use Rattle.mast_onto.specs.declared.statement.Statement.TheVariants as statement
 use Rattle.mast_onto.specs.declared.statements.TheConstants.{MOST_ITEMS}
 use Rattle.mast_onto.specs.inside.Stating.{StateAll}
 use Rattle.mast_onto.proofs.FrontLemmas.{within_none, among_from, from_among}

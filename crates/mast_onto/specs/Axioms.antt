@@ -11,10 +11,11 @@ use Rattle.mast_tbox.specs.Lists.{AreEach}
 use Rattle.mast_tree.specs.declared.item.Item.{Item}
 use Rattle.mast_tree.specs.declared.shape.ShapeBreach.{ShapeBreach}
 use Rattle.mast_tree.specs.declared.shape.ShapeKind.TheVariants.{NotDlLite, Datatype}
-use Rattle.mast_tree.specs.Judgements.{Judgement, uses, breaks}
+use Rattle.mast_tree.specs.Judgements.{Judgement, uses, breaks, breach_judged}
 use Rattle.mast_tree.specs.Names.{is_standard}
 use Rattle.mast_tree.specs.Said.{line}
-use Rattle.mast_expressions.specs.Pages.{Page, says, expanded, rdfs_literal}
+use Rattle.mast_tree.specs.Pages.{Page, says}
+use Rattle.mast_expressions.specs.Iris.{expanded, rdfs_literal}
 use Rattle.mast_expressions.specs.Judged.{role_judged, attr_judged, left_judged}
 use Rattle.mast_expressions.specs.Given.{IsAttr, IsRole, IsLeft}
 use Rattle.mast_onto.specs.Nodes.{AxiomForm, nothing, declared, listed, below, range, wrong, axiom_form}
@@ -26,7 +27,22 @@ use Rattle.mast_onto.specs.declared.statement.Axiom.{Axiom}
 use Rattle.mast_onto.specs.declared.statement.Axiom.TheVariants.{Nothing, Listed, Below, Range}
 use Rattle.mast_onto.specs.declared.statement.Expression.{Expression}
 use Rattle.mast_onto.specs.declared.statement.Expression.TheVariants.{Concept, Role, Attr}
-use Rattle.mast_onto.specs.declared.statement.Part.{Part}
+
+-- an IRI that is declared as a name of a kind; one of the standards' namespaces adds nothing
+abbrev pub declares : Option NameKind → List ℕ → ℕ → List Judgement
+declares None iri at = []
+declares (Some kind) iri at = if is_standard iri then [] else uses kind iri at ∷ []
+
+-- a declared IRI: its form and prefix, then its use
+abbrev pub declared_judged : Option NameKind → Result (List ℕ) ShapeBreach → ℕ → List Judgement
+declared_judged kind (Err breach) at = breaks breach.kind breach.line ∷ []
+declared_judged kind (Ok iri) at = declares kind iri at
+
+-- what is judged of an item in a place
+abbrev pub member_judged : Page → Place → Item → List Judgement
+member_judged page place.Left item = left_judged page item
+member_judged page place.Role item = role_judged NotDlLite page item
+member_judged page place.Attr item = attr_judged NotDlLite page item
 
 -- the kind of the values of a type; `rdfs:Literal` has none, and other IRIs are no types
 abbrev pub type_of : List ℕ → ℕ → Result (Option Kind) ShapeBreach
@@ -45,27 +61,6 @@ type_in (Ok iri) at = type_of iri at
 -- the type that an item says, or its breach
 abbrev pub type_said : Page → Item → Result (Option Kind) ShapeBreach
 type_said page item = type_in (expanded NotDlLite page item) (line (says page item))
-
--- a breach, if there is one
-abbrev pub breach_judged : {T : Type 0} → Result T ShapeBreach → List Judgement
-breach_judged (Ok value) = []
-breach_judged (Err breach) = breaks breach.kind breach.line ∷ []
-
--- an IRI that is declared as a name of a kind; one of the standards' namespaces adds nothing
-abbrev pub declares : Option NameKind → List ℕ → ℕ → List Judgement
-declares None iri at = []
-declares (Some kind) iri at = if is_standard iri then [] else uses kind iri at ∷ []
-
--- a declared IRI: its form and prefix, then its use
-abbrev pub declared_judged : Option NameKind → Result (List ℕ) ShapeBreach → ℕ → List Judgement
-declared_judged kind (Err breach) at = breaks breach.kind breach.line ∷ []
-declared_judged kind (Ok iri) at = declares kind iri at
-
--- what is judged of an item in a place
-abbrev pub member_judged : Page → Place → Item → List Judgement
-member_judged page place.Left item = left_judged page item
-member_judged page place.Role item = role_judged NotDlLite page item
-member_judged page place.Attr item = attr_judged NotDlLite page item
 
 -- what is judged of an axiom, by its form
 abbrev pub form_judged : Page → AxiomForm → List Judgement
@@ -102,7 +97,9 @@ pub record IsSubject (page : Page) (at : Place) (turned : Bool) (lists : Lists) 
 abbrev pub IsAxiom : Page → Lists → AxiomForm → Axiom → Type 0
 IsAxiom page lists nothing Nothing = ⊤
 IsAxiom page lists (declared kind item) Nothing = ⊤
-IsAxiom page lists (listed at relation items) (Listed r members) = (r ≡ relation) × AreEach (IsMember page at lists) items members
-IsAxiom page lists (below at turned sub sup) (Below b parts) = IsSubject page at turned lists sub b × AreEach (IsPart page lists) (right_forms page sup) parts
+IsAxiom page lists (listed at relation items) (Listed r members) =
+    (r ≡ relation) × AreEach (IsMember page at lists) items members
+IsAxiom page lists (below at turned sub sup) (Below b parts) =
+    IsSubject page at turned lists sub b × AreEach (IsPart page lists) (right_forms page sup) parts
 IsAxiom page lists (range attr of_type) (Range u kind) = IsAttr lists page attr u × (type_said page of_type ≡ Ok kind)
 IsAxiom page lists _ _ = ⊥

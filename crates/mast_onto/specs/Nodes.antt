@@ -6,8 +6,8 @@ use Rattle.mast_terms.specs.declared.name.NameKind.TheVariants as kinds
 use Rattle.mast_tree.specs.declared.item.Item.{Item}
 use Rattle.mast_tree.specs.declared.shape.ShapeKind.{ShapeKind}
 use Rattle.mast_tree.specs.declared.shape.ShapeKind.TheVariants as shape
-use Rattle.mast_tree.specs.Said.{Said, name, iri, text, tagged, binding, node, line}
-use Rattle.mast_expressions.specs.Pages.{Page, says}
+use Rattle.mast_tree.specs.Said.{Said, node, line}
+use Rattle.mast_tree.specs.Pages.{Page, says}
 use Rattle.mast_onto.specs.Forms.{form_of, fits}
 use Rattle.mast_onto.specs.declared.form.Form.{Form}
 use Rattle.mast_onto.specs.declared.form.Form.TheVariants as form

@@ -8,13 +8,13 @@ use Rattle.mast_tbox.specs.Lists.{AreEach}
 use Rattle.mast_tree.specs.declared.item.Item.{Item}
 use Rattle.mast_tree.specs.declared.shape.ShapeBreach.{ShapeBreach}
 use Rattle.mast_tree.specs.declared.shape.ShapeKind.TheVariants.{Items}
-use Rattle.mast_tree.specs.Judged.{after_judged, Judging, IsRight}
-use Rattle.mast_tree.specs.Judgements.{Judgement, first_breach, AreRight}
-use Rattle.mast_tree.specs.MainNode.{Prefixes, HasParts, IsFrontBreach}
+use Rattle.mast_tree.specs.Judged.{after_judged, Judging, IsRight, IsInnerBreach}
+use Rattle.mast_tree.specs.Judgements.{Judgement, first_breach, AreRight, breach_judged}
+use Rattle.mast_tree.specs.MainNode.{Prefixes, IsFrontBreach}
 use Rattle.mast_tree.specs.Said.{Said, name, iri, text, tagged, binding, node, line}
 use Rattle.mast_tree.specs.Seen.{Document}
-use Rattle.mast_expressions.specs.Pages.{Page, page_of, says, names}
-use Rattle.mast_onto.specs.Axioms.{breach_judged, axiom_judged, IsAxiom}
+use Rattle.mast_tree.specs.Pages.{Page, page_of, says, names}
+use Rattle.mast_onto.specs.Axioms.{axiom_judged, IsAxiom}
 use Rattle.mast_onto.specs.Lists.{together}
 use Rattle.mast_onto.specs.Nodes.{axiom_form}
 use Rattle.mast_onto.specs.Numbered.{inclusions_in, negatives_in, functional_in, numbered}
@@ -70,7 +70,8 @@ HasStatements doc lists of_each prefixes inside =
     AreEach (IsStated (page_of doc prefixes) lists) (axioms (page_of doc prefixes) inside) of_each
     × (length (together of_each) ≤ MOST_ITEMS)
 
--- the document has the ontology, over the names of the vocabulary before it: nothing is wrong with it, and its items are those that its axioms state, in order
+-- the document has the ontology, over the names of the vocabulary before it: nothing is wrong with it, and its items are those that its
+-- axioms state, in order
 pub record HasOntology (doc : Document) (old : Lists) (ontology : Ontology) : Type 0 where
   pub of_each : List (List (Lined Statement))
   pub right : IsRight doc (codes "Ontology") (ontology_judged doc) old ontology.vocab (HasStatements doc ontology.vocab of_each)
@@ -125,17 +126,11 @@ IsBreachIn page old inside after breach =
     (first_breach old (iris_judged page inside) ≡ Some breach)
     ⊎ ((first_breach old (iris_judged page inside) ≡ None) × IsBreachAmong page old (axioms page inside) after breach)
 
--- the document's parts are found, and the breach is the first behind its prologue
-pub record IsInnerBreach (doc : Document) (old : Lists) (breach : ShapeBreach) : Type 0 where
-  pub prefixes : Prefixes
-  pub inside : List Item
-  pub after : List Item
-  pub parts : HasParts doc (codes "Ontology") prefixes inside after
-  pub first : IsBreachIn (page_of doc prefixes) old inside after breach
-
 -- the first breach of an ontology document, over the names of the vocabulary before it
 abbrev pub IsOntologyBreach : Document → Lists → ShapeBreach → Type 0
-IsOntologyBreach doc old breach = IsFrontBreach doc (codes "Ontology") breach ⊎ IsInnerBreach doc old breach
+IsOntologyBreach doc old breach =
+    IsFrontBreach doc (codes "Ontology") breach
+    ⊎ IsInnerBreach doc (codes "Ontology") (λ prefixes inside after. IsBreachIn (page_of doc prefixes) old inside after breach)
 
 -- two ontologies have the same names and the same axioms
 pub record AreSame (a b : Ontology) : Type 0 where

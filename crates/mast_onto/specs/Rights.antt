@@ -1,17 +1,18 @@
 -- Right sides: the parts of one, what is judged of them, and what they give.
-use Rattle.std.specs.Prelude.{◌≡◌, ⊤, ℕ, zero, suc, Bool, false, if◌then◌else◌, List, [], ◌∷◌, ◌++◌, Option, Some, None, Result, Ok, Err, codes}
+use Rattle.std.specs.Prelude.{⊤, ℕ, Bool, false, if◌then◌else◌, List, [], ◌∷◌, ◌++◌, Option, Some, None, Result, Ok, Err, codes}
 use Rattle.std.specs.List.{flat_map}
 use Rattle.std.specs.Str.{bytes_eq}
 use Rattle.mast_terms.specs.Vocabularies.{Lists}
-use Rattle.mast_tree.specs.declared.item.Item.{Item}
+use Rattle.mast_tree.specs.declared.item.Item.{Item, para-Item}
+use Rattle.mast_tree.specs.declared.item.Item.TheOpen.{Item-F}
 use Rattle.mast_tree.specs.declared.shape.ShapeBreach.{ShapeBreach}
 use Rattle.mast_tree.specs.declared.shape.ShapeKind.TheVariants.{Shape, NotDlLite}
 use Rattle.mast_tree.specs.Judgements.{Judgement, breaks}
 use Rattle.mast_tree.specs.Said.{Said, node}
-use Rattle.mast_expressions.specs.Pages.{Page, says, names, owl_thing}
+use Rattle.mast_tree.specs.Pages.{Page, says, names}
+use Rattle.mast_expressions.specs.Iris.{owl_thing}
 use Rattle.mast_expressions.specs.Judged.{class_judged, role_judged, left_judged}
 use Rattle.mast_expressions.specs.Given.{IsClassIn, IsRole, IsLeft}
-use Rattle.mast_tree.specs.declared.item.TheConstants.{MOST_OPEN}
 use Rattle.mast_onto.specs.declared.statement.Part.{Part}
 use Rattle.mast_onto.specs.declared.statement.Part.TheVariants as part
 
@@ -58,29 +59,33 @@ part_said page item leaf = part_leaf page item
 abbrev pub part_form : Page → Item → PartForm
 part_form page item = part_said page item (says page item)
 
+-- the line of an intersection
+abbrev pub intersection : Said → Option ℕ
+intersection (node word at items) = if bytes_eq word (codes "ObjectIntersectionOf") then Some at else None
+intersection leaf = None
+
 -- `ObjectIntersectionOf` of two or more right sides, each of which has these parts
-abbrev pub both_forms : (Item → List PartForm) → ℕ → List Item → List PartForm
+abbrev pub both_forms : {T : Type 0} → (T → List PartForm) → ℕ → List T → List PartForm
 both_forms forms at (first ∷ second ∷ more) = flat_map forms (first ∷ second ∷ more)
 both_forms forms at _ = wrong at ∷ []
 
--- an intersection at a line, with the items inside it
-abbrev pub intersection : Said → Option (ℕ × List Item)
-intersection (node word at items) = if bytes_eq word (codes "ObjectIntersectionOf") then Some (at, items) else None
-intersection leaf = None
+-- the parts of a node: of an intersection those of each item inside it, and of another node itself
+abbrev pub opened : {T : Type 0} → Page → (T → List PartForm) → Item → List T → Option ℕ → List PartForm
+opened page forms item inside None = part_form page item ∷ []
+opened page forms item inside (Some at) = both_forms forms at inside
 
--- the parts of an intersection, or the one part that another item is
-abbrev pub opened : Page → (Item → List PartForm) → Item → Option (ℕ × List Item) → List PartForm
-opened page forms item None = part_form page item ∷ []
-opened page forms item (Some p) = both_forms forms p.0 p.1
+-- the parts of an item that stands beside what gives them
+abbrev pub given : Item × (Item → List PartForm) → List PartForm
+given p = p.1 p.0
 
--- the parts of a right side in which at most so many intersections stand in one another
-abbrev pub forms_within : ℕ → Page → Item → List PartForm
-forms_within zero page item = part_form page item ∷ []
-forms_within (suc depth) page item = opened page (forms_within depth page) item (intersection (says page item))
+-- the parts of an item with this layer, in which each item inside stands beside what gives its parts
+abbrev pub right_layer : Page → Item-F (Item × (Item → List PartForm)) → Item → List PartForm
+right_layer page (Item-F.Node token inside) item = opened page given item inside (intersection (says page item))
+right_layer page leaf item = part_form page item ∷ []
 
--- the parts of a right side. No more intersections stand in one another than parentheses may be open
+-- the parts of a right side, by recursion on its tree (`para-Item`), of which each layer gives the parts of its item
 abbrev pub right_forms : Page → Item → List PartForm
-right_forms page item = forms_within MOST_OPEN page item
+right_forms page item = para-Item (Item → List PartForm) (right_layer page) item item
 
 -- what is judged of a part
 abbrev pub part_judged : Page → PartForm → List Judgement

@@ -2,6 +2,25 @@
 ghost use Rattle.std.specs.Prelude.{◌≡◌};
 ghost use Rattle.mast_onto.specs.Forms as spec;
 
+/// The form of a node among the axioms.
+#[derive(Clone, Copy, Debug, PartialEq, Eq)]
+pub enum Form {
+    /// An annotation, which is skipped unjudged.
+    Skipped,
+    /// An assertion, which stands in no ontology of this profile.
+    Assertion,
+    /// A declaration of a name.
+    Declaration,
+    /// A list of expressions, and what is said of them.
+    Listed(Place, Relation),
+    /// An expression, or its inverse where that is meant, whose subjects are below a right side.
+    Below(Place, bool),
+    /// An attribute and the type of its values.
+    AttrRange,
+    /// No form of this profile.
+    Other,
+}
+
 /// What may stand in a place.
 #[derive(Clone, Copy, Debug, PartialEq, Eq)]
 pub enum Place {
@@ -36,23 +55,25 @@ pub enum Relation {
     InverseFunctional,
 }
 
-/// The form of a node among the axioms.
-#[derive(Clone, Copy, Debug, PartialEq, Eq)]
-pub enum Form {
-    /// An annotation, which is skipped unjudged.
-    Skipped,
-    /// An assertion, which stands in no ontology of this profile.
-    Assertion,
-    /// A declaration of a name.
-    Declaration,
-    /// A list of expressions, and what is said of them.
-    Listed(Place, Relation),
-    /// An expression, or its inverse where that is meant, whose subjects are below a right side.
-    Below(Place, bool),
-    /// An attribute and the type of its values.
-    AttrRange,
-    /// No form of this profile.
-    Other,
+/// The form of a node by its word.
+pub(crate) fn form_of(word: &str) -> Form
+    ensures { result ≡ spec.form_of word.now }
+{
+    if is_skipped(word) {
+        Form::Skipped
+    } else if is_assertion(word) {
+        Form::Assertion
+    } else if word == "Declaration" {
+        Form::Declaration
+    } else if word == "SubClassOf" {
+        Form::Below(Place::Left, false)
+    } else if word == "EquivalentClasses" {
+        Form::Listed(Place::Left, Relation::Equivalent)
+    } else if word == "DisjointClasses" {
+        Form::Listed(Place::Left, Relation::Disjoint)
+    } else {
+        roles_form(word)
+    }
 }
 
 // Annotations, which are skipped.
@@ -79,24 +100,24 @@ fn is_assertion(word: &str) -> bool
         || word == "DifferentIndividuals"
 }
 
-// Axioms of attributes.
-fn attr_form(word: &str) -> Form
-    ensures { result ≡ spec.attr_form word.now }
+// Axioms between roles, and of what they lead from and to.
+fn roles_form(word: &str) -> Form
+    ensures { result ≡ spec.roles_form word.now }
 {
-    if word == "SubDataPropertyOf" {
-        Form::Listed(Place::Attr, Relation::In)
-    } else if word == "EquivalentDataProperties" {
-        Form::Listed(Place::Attr, Relation::Equivalent)
-    } else if word == "DisjointDataProperties" {
-        Form::Listed(Place::Attr, Relation::Disjoint)
-    } else if word == "DataPropertyDomain" {
-        Form::Below(Place::Attr, false)
-    } else if word == "DataPropertyRange" {
-        Form::AttrRange
-    } else if word == "FunctionalDataProperty" {
-        Form::Listed(Place::Attr, Relation::Functional)
+    if word == "SubObjectPropertyOf" {
+        Form::Listed(Place::Role, Relation::In)
+    } else if word == "EquivalentObjectProperties" {
+        Form::Listed(Place::Role, Relation::Equivalent)
+    } else if word == "InverseObjectProperties" {
+        Form::Listed(Place::Role, Relation::Inverses)
+    } else if word == "DisjointObjectProperties" {
+        Form::Listed(Place::Role, Relation::Disjoint)
+    } else if word == "ObjectPropertyDomain" {
+        Form::Below(Place::Role, false)
+    } else if word == "ObjectPropertyRange" {
+        Form::Below(Place::Role, true)
     } else {
-        Form::Other
+        role_form(word)
     }
 }
 
@@ -119,45 +140,24 @@ fn role_form(word: &str) -> Form
     }
 }
 
-// Axioms between roles, and of what they lead from and to.
-fn roles_form(word: &str) -> Form
-    ensures { result ≡ spec.roles_form word.now }
+// Axioms of attributes.
+fn attr_form(word: &str) -> Form
+    ensures { result ≡ spec.attr_form word.now }
 {
-    if word == "SubObjectPropertyOf" {
-        Form::Listed(Place::Role, Relation::In)
-    } else if word == "EquivalentObjectProperties" {
-        Form::Listed(Place::Role, Relation::Equivalent)
-    } else if word == "InverseObjectProperties" {
-        Form::Listed(Place::Role, Relation::Inverses)
-    } else if word == "DisjointObjectProperties" {
-        Form::Listed(Place::Role, Relation::Disjoint)
-    } else if word == "ObjectPropertyDomain" {
-        Form::Below(Place::Role, false)
-    } else if word == "ObjectPropertyRange" {
-        Form::Below(Place::Role, true)
+    if word == "SubDataPropertyOf" {
+        Form::Listed(Place::Attr, Relation::In)
+    } else if word == "EquivalentDataProperties" {
+        Form::Listed(Place::Attr, Relation::Equivalent)
+    } else if word == "DisjointDataProperties" {
+        Form::Listed(Place::Attr, Relation::Disjoint)
+    } else if word == "DataPropertyDomain" {
+        Form::Below(Place::Attr, false)
+    } else if word == "DataPropertyRange" {
+        Form::AttrRange
+    } else if word == "FunctionalDataProperty" {
+        Form::Listed(Place::Attr, Relation::Functional)
     } else {
-        role_form(word)
-    }
-}
-
-/// The form of a node by its word.
-pub(crate) fn form_of(word: &str) -> Form
-    ensures { result ≡ spec.form_of word.now }
-{
-    if is_skipped(word) {
-        Form::Skipped
-    } else if is_assertion(word) {
-        Form::Assertion
-    } else if word == "Declaration" {
-        Form::Declaration
-    } else if word == "SubClassOf" {
-        Form::Below(Place::Left, false)
-    } else if word == "EquivalentClasses" {
-        Form::Listed(Place::Left, Relation::Equivalent)
-    } else if word == "DisjointClasses" {
-        Form::Listed(Place::Left, Relation::Disjoint)
-    } else {
-        roles_form(word)
+        Form::Other
     }
 }
 

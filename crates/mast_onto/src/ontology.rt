@@ -4,7 +4,7 @@ ghost use Rattle.mast_terms.specs.Answers.{Answers};
 ghost use Rattle.mast_terms.specs.Vocabularies.{Lists};
 ghost use Rattle.mast_tree.specs.Growing.{Begins};
 ghost use Rattle.mast_tree.specs.Seen.{seen};
-ghost use Rattle.mast_expressions.specs.Pages.{says};
+ghost use Rattle.mast_tree.specs.Pages.{says};
 ghost use Rattle.mast_expressions.specs.Reads.{page};
 ghost use Rattle.mast_onto.specs.Known.{HasNames};
 ghost use Rattle.mast_onto.specs.Ontologies as spec;
@@ -18,89 +18,6 @@ use mast_tbox::Ontology;
 use mast_terms::{NoMemory, Stop, Vocabulary};
 use mast_tree::{Doc, Item, Layer, ShapeBreach};
 use std::alloc::Global;
-
-impl<'d> Reader<'d> {
-    // Whether an item is an IRI, in brackets or by its prefix.
-    fn is_iri(&self, item: &Item) -> bool
-        ensures { result ≡ spec.is_iri (says (page self.now.places) item.now) }
-    {
-        match self.places.doc.layer(item) {
-            Layer::Name { .. } => true,
-            Layer::Iri { .. } => true,
-            Layer::Text { .. } => false,
-            Layer::Tagged { .. } => false,
-            Layer::Binding { .. } => false,
-            Layer::Node { .. } => false,
-        }
-    }
-
-    // The items behind an IRI, if one stands at the front.
-    fn behind_iri<'i>(
-        &self,
-        alloc: Global,
-        items: &'i [Item],
-    ) -> Result<&'i [Item], Stop<ShapeBreach>>
-        ensures { (lists : Lists) → ReadsFront (page self.now.places) items.now lists result }
-    {
-        match items {
-            [] => Ok(items),
-            [item, rest @ ..] => {
-                if !self.is_iri(item) {
-                    return Ok(items);
-                }
-                let _ = self.places.prefixes.expand(alloc, self.places.doc, item)?;
-                Ok(rest)
-            }
-        }
-    }
-
-    // Adds what an item among the axioms states.
-    fn state(
-        &self,
-        alloc: Global,
-        vocab: &mut Vocabulary,
-        statements: &mut Statements,
-        item: &Item,
-    ) -> Result<(), Stop<ShapeBreach>>
-        ensures { ReadsStated (page self.now.places) item.now vocab.old vocab.new statements.old.list statements.new.list result }
-    {
-        let read = self.read(alloc, vocab, self.axiom_form(item))?;
-        statements.state(alloc, self.places.line(item), &read)
-    }
-
-    // What the axioms state.
-    fn axioms(
-        &self,
-        alloc: Global,
-        vocab: &mut Vocabulary,
-        items: &[Item],
-    ) -> Result<Statements, Stop<ShapeBreach>>
-        ensures { ReadsAxioms (page self.now.places) items.now vocab.old vocab.new result }
-    {
-        let mut statements = Statements::new(alloc);
-        for item in items {
-            self.state(alloc, vocab, &mut statements, item)?;
-        }
-        Ok(statements)
-    }
-
-    // What the axioms inside the main node state, and nothing follows that node.
-    fn inside(
-        &self,
-        alloc: Global,
-        vocab: &mut Vocabulary,
-        inside: &[Item],
-        after: &[Item],
-    ) -> Result<Statements, Stop<ShapeBreach>>
-        ensures { ReadsInside (page self.now.places) inside.now after.now vocab.old vocab.new result }
-    {
-        let rest = self.behind_iri(alloc, inside)?;
-        let axioms = self.behind_iri(alloc, rest)?;
-        let statements = self.axioms(alloc, vocab, axioms)?;
-        self.places.doc.nothing_after(after)?;
-        Ok(statements)
-    }
-}
 
 /// The ontology of a document, over the names of a vocabulary, or the document's first breach.
 ///
@@ -134,5 +51,88 @@ fn read_whole(alloc: Global, doc: &Doc, vocab: Vocabulary) -> Result<Ontology, S
     match tbox_of(alloc, &statements) {
         Ok(tbox) => Ok(Ontology { vocab: names, tbox }),
         Err(NoMemory) => Err(Stop::NoMemory),
+    }
+}
+
+impl<'d> Reader<'d> {
+    // What the axioms inside the main node state, and nothing follows that node.
+    fn inside(
+        &self,
+        alloc: Global,
+        vocab: &mut Vocabulary,
+        inside: &[Item],
+        after: &[Item],
+    ) -> Result<Statements, Stop<ShapeBreach>>
+        ensures { ReadsInside (page self.now.places) inside.now after.now vocab.old vocab.new result }
+    {
+        let rest = self.behind_iri(alloc, inside)?;
+        let axioms = self.behind_iri(alloc, rest)?;
+        let statements = self.axioms(alloc, vocab, axioms)?;
+        self.places.doc.nothing_after(after)?;
+        Ok(statements)
+    }
+
+    // The items behind an IRI, if one stands at the front.
+    fn behind_iri<'i>(
+        &self,
+        alloc: Global,
+        items: &'i [Item],
+    ) -> Result<&'i [Item], Stop<ShapeBreach>>
+        ensures { (lists : Lists) → ReadsFront (page self.now.places) items.now lists result }
+    {
+        match items {
+            [] => Ok(items),
+            [item, rest @ ..] => {
+                if !self.is_iri(item) {
+                    return Ok(items);
+                }
+                let _ = self.places.prefixes.expand(alloc, self.places.doc, item)?;
+                Ok(rest)
+            }
+        }
+    }
+
+    // Whether an item is an IRI, in brackets or by its prefix.
+    fn is_iri(&self, item: &Item) -> bool
+        ensures { result ≡ spec.is_iri (says (page self.now.places) item.now) }
+    {
+        match self.places.doc.layer(item) {
+            Layer::Name { .. } => true,
+            Layer::Iri { .. } => true,
+            Layer::Text { .. } => false,
+            Layer::Tagged { .. } => false,
+            Layer::Binding { .. } => false,
+            Layer::Node { .. } => false,
+        }
+    }
+
+    // What the axioms state.
+    fn axioms(
+        &self,
+        alloc: Global,
+        vocab: &mut Vocabulary,
+        items: &[Item],
+    ) -> Result<Statements, Stop<ShapeBreach>>
+        ensures { ReadsAxioms (page self.now.places) items.now vocab.old vocab.new result }
+    {
+        let mut statements = Statements::new(alloc);
+        for item in items {
+            self.state(alloc, vocab, &mut statements, item)?;
+        }
+        Ok(statements)
+    }
+
+    // Adds what an item among the axioms states.
+    fn state(
+        &self,
+        alloc: Global,
+        vocab: &mut Vocabulary,
+        statements: &mut Statements,
+        item: &Item,
+    ) -> Result<(), Stop<ShapeBreach>>
+        ensures { ReadsStated (page self.now.places) item.now vocab.old vocab.new statements.old.list statements.new.list result }
+    {
+        let read = self.read(alloc, vocab, self.axiom_form(item))?;
+        statements.state(alloc, self.places.line(item), &read)
     }
 }

@@ -10,7 +10,7 @@ use crate::form::Relation;
 use crate::statement::{Axiom, Expression, Part, Statement};
 use mast_tbox::{Basic, Inclusion, Lined};
 use mast_terms::{Kind, List, Name, Stop};
-use mast_tree::{ShapeBreach, ShapeKind};
+use mast_tree::{ShapeBreach, ShapeKind, wrong};
 use std::alloc::Global;
 
 /// How many items an ontology may have.
@@ -27,10 +27,7 @@ pub(crate) struct Statements {
 fn items_at(line: u32) -> Stop<ShapeBreach>
     ensures { result ≡ stop.Named (items_at line) }
 {
-    Stop::Named(ShapeBreach {
-        line,
-        kind: ShapeKind::Items,
-    })
+    wrong(line, ShapeKind::Items)
 }
 
 impl Statements {

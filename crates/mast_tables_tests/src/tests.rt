@@ -54,86 +54,76 @@ fn judged(
 }
 
 #[test]
-fn files_have_rows_or_a_breach(rt: HostRuntime) -> Result<(), Fail> {
+fn files_have_rows(rt: HostRuntime) -> Result<(), Fail> {
     let cases = [
-        (b"name,n,d\n".as_slice(), 9, Ok(0)),
+        (b"name,n,d\n".as_slice(), 9, 0),
         (
             b"\xEF\xBB\xBFname,n,d\n\n\"a,\"\"b\"\"\",007,2024-02-29\r\n,+7,\n".as_slice(),
             9,
-            Ok(2),
-        ),
-        (b"name,n,d\nu,1,\nu,2,\nv,3,\n".as_slice(), 3, Ok(3)),
-        (b"".as_slice(), 9, Err((0, 1, RowKind::Header))),
-        (b"name,m,d\n".as_slice(), 9, Err((0, 2, RowKind::Header))),
-        (b"name,n\n".as_slice(), 9, Err((0, 3, RowKind::Header))),
-        (
-            b"name,n,d,e\nu\n".as_slice(),
-            9,
-            Err((0, 4, RowKind::Header)),
-        ),
-        (
-            b"\xEF\xBB\xBF\xEF\xBB\xBFname,n,d\n".as_slice(),
-            9,
-            Err((0, 1, RowKind::Header)),
-        ),
-        (
-            b"name,n,d\nu,1,\nu,2,\nv\n".as_slice(),
             2,
-            Err((3, 0, RowKind::Rows)),
         ),
-        (
-            b"name,n,d\nu,1,\nu,x,\nv\n".as_slice(),
-            2,
-            Err((2, 2, RowKind::BadInt)),
-        ),
-        (
-            b"name,n,d\nu,x\n".as_slice(),
-            9,
-            Err((1, 3, RowKind::Width)),
-        ),
-        (
-            b"name,n,d\nu,x,y,z\n".as_slice(),
-            9,
-            Err((1, 4, RowKind::Width)),
-        ),
-        (
-            b"name,n,d\n\"\"\n".as_slice(),
-            9,
-            Err((1, 2, RowKind::Width)),
-        ),
-        (
-            b"name,n,d\nu,\xFF,y\n".as_slice(),
-            9,
-            Err((1, 2, RowKind::NotUtf8)),
-        ),
-        (
-            b"name,n,d\n\xC3,,y\n".as_slice(),
-            9,
-            Err((1, 1, RowKind::NotUtf8)),
-        ),
-        (
-            b"name,n,d\nu,,y\n".as_slice(),
-            9,
-            Err((1, 2, RowKind::Missing)),
-        ),
-        (
-            b"name,n,d\nu,9223372036854775808,y\n".as_slice(),
-            9,
-            Err((1, 2, RowKind::BadInt)),
-        ),
-        (
-            b"name,n,d\nu,1,2023-02-29\n".as_slice(),
-            9,
-            Err((1, 3, RowKind::BadDate)),
-        ),
+        (b"name,n,d\nu,1,\nu,2,\nv,3,\n".as_slice(), 3, 3),
         (
             b"name,n,d\nu,-9223372036854775808,0001-01-01".as_slice(),
             9,
-            Ok(1),
+            1,
         ),
     ];
-    for (bytes, most, wanted) in cases {
-        assert_eq!(rt; judged(rt.alloc(), bytes, most)?, wanted);
+    for (bytes, most, rows) in cases {
+        assert_eq!(rt; judged(rt.alloc(), bytes, most)?, Ok(rows));
+    }
+    Ok(())
+}
+
+#[test]
+fn a_header_is_as_declared(rt: HostRuntime) -> Result<(), Fail> {
+    let cases = [
+        (b"".as_slice(), 1),
+        (b"name,m,d\n".as_slice(), 2),
+        (b"name,n\n".as_slice(), 3),
+        (b"name,n,d,e\nu\n".as_slice(), 4),
+        (b"\xEF\xBB\xBF\xEF\xBB\xBFname,n,d\n".as_slice(), 1),
+    ];
+    for (bytes, column) in cases {
+        assert_eq!(rt;
+            judged(rt.alloc(), bytes, 9)?,
+            Err((0, column, RowKind::Header))
+        );
+    }
+    Ok(())
+}
+
+#[test]
+fn the_first_breach_comes_before_the_limit_of_rows(rt: HostRuntime) -> Result<(), Fail> {
+    let full = b"name,n,d\nu,1,\nu,2,\nv\n".as_slice();
+    assert_eq!(rt; judged(rt.alloc(), full, 2)?, Err((3, 0, RowKind::Rows)));
+    let wrong = b"name,n,d\nu,1,\nu,x,\nv\n".as_slice();
+    assert_eq!(rt; judged(rt.alloc(), wrong, 2)?, Err((2, 2, RowKind::BadInt)));
+    Ok(())
+}
+
+#[test]
+fn a_row_has_a_first_breach(rt: HostRuntime) -> Result<(), Fail> {
+    let cases = [
+        (b"name,n,d\nu,x\n".as_slice(), 3, RowKind::Width),
+        (b"name,n,d\nu,x,y,z\n".as_slice(), 4, RowKind::Width),
+        (b"name,n,d\n\"\"\n".as_slice(), 2, RowKind::Width),
+        (b"name,n,d\nu,\xFF,y\n".as_slice(), 2, RowKind::NotUtf8),
+        (b"name,n,d\n\xC3,,y\n".as_slice(), 1, RowKind::NotUtf8),
+        (b"name,n,d\nu,,y\n".as_slice(), 2, RowKind::Missing),
+        (
+            b"name,n,d\nu,9223372036854775808,y\n".as_slice(),
+            2,
+            RowKind::BadInt,
+        ),
+        (
+            b"name,n,d\nu,1,2023-02-29\n".as_slice(),
+            3,
+            RowKind::BadDate,
+        ),
+    ];
+    for (bytes, column, kind) in cases {
+        assert_eq!(rt; judged(rt.alloc(), bytes, 9)?, Err((1, column, kind)));
     }
     Ok(())
 }

@@ -95,7 +95,8 @@ KeepsTwice tbox = (n : ℕ) (g h : Atom) → Down tbox g h → Twice n g ↔ Twi
 
 -- where each argument has one sort, it has one too after a member of Down took the place of its atom
 abbrev pub KeepsSorts : List Inclusion → Type 0
-KeepsSorts tbox = (before after : List Atom) (g h : Atom) → Down tbox g h → EachHasOneSort (before ++ g ∷ after) → EachHasOneSort (before ++ h ∷ after)
+KeepsSorts tbox =
+    (before after : List Atom) (g h : Atom) → Down tbox g h → EachHasOneSort (before ++ g ∷ after) → EachHasOneSort (before ++ h ∷ after)
 
 -- the members of Down by the normal inclusions have names in range, or auxiliary roles of the TBox, where their atom has
 abbrev pub KeepsRange : List Inclusion → Type 0

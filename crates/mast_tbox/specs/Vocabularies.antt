@@ -1,8 +1,8 @@
 -- What stands in a vocabulary: the names of axioms, and the names and constants of constraints.
-use Rattle.std.specs.Prelude.{ℕ, ◌<◌, List, length}
+use Rattle.std.specs.Prelude.{List, length}
 use Rattle.std.specs.List.{AllByRecursion}
-use Rattle.mast_terms.specs.declared.name.NameKind.{NameKind}
-use Rattle.mast_terms.specs.Vocabularies.{Lists, iris}
+use Rattle.mast_terms.specs.Vocabularies.{Lists}
+use Rattle.mast_tree.specs.Names.{StandsIn}
 use Rattle.mast_cq.specs.UnifierMeanings.{IsBelow, KnownAtom}
 use Rattle.mast_tbox.specs.declared.axiom.Inclusion.{Inclusion}
 use Rattle.mast_tbox.specs.declared.axiom.Lined.{Lined}
@@ -13,10 +13,6 @@ use Rattle.mast_tbox.specs.declared.expression.Prop.{Prop}
 use Rattle.mast_tbox.specs.Lists.{items}
 use Rattle.mast_tbox.specs.Names.{PropNamed, InclusionNamed, NegativeNamed, ConstraintNamed}
 
--- a name of this kind and number stands in the vocabulary
-abbrev pub StandsIn : Lists → NameKind → ℕ → Type 0
-StandsIn lists kind n = n < length (iris lists kind)
-
 -- the constants of a denial stand in the vocabulary
 abbrev pub ConstantsStandIn : Lists → Constraint → Type 0
 ConstantsStandIn lists (Functional p) = Unit {0}
@@ -24,7 +20,8 @@ ConstantsStandIn lists (Identify concept paths) = Unit {0}
 ConstantsStandIn lists (Deny atoms) = AllByRecursion (KnownAtom (IsBelow (length lists.constants))) atoms
 
 -- the names of the axioms are in range
-pub record AxiomsInRange (lists : Lists) (inclusions : List (Lined Inclusion)) (negatives : List (Lined Negative)) (props : List (Lined Prop)) : Type 0 where
+pub record AxiomsInRange
+    (lists : Lists) (inclusions : List (Lined Inclusion)) (negatives : List (Lined Negative)) (props : List (Lined Prop)) : Type 0 where
   pub of_inclusions : AllByRecursion (InclusionNamed (StandsIn lists)) (items inclusions)
   pub of_negatives : AllByRecursion (NegativeNamed (StandsIn lists)) (items negatives)
   pub of_functional : AllByRecursion (PropNamed (StandsIn lists)) (items props)

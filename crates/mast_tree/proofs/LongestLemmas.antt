@@ -13,7 +13,8 @@ use Rattle.mast_tree.specs.declared.token.LexKind.{LexKind}
 use Rattle.mast_tree.specs.declared.token.LexKind.TheVariants.{NotUtf8, Character, OpenString, Escape, OpenIri}
 use Rattle.mast_tree.specs.declared.scanner.Scanned.{Scanned}
 use Rattle.mast_tree.specs.declared.scanner.Scanned.TheVariants.{Token, Wrong}
-use Rattle.mast_tree.specs.Tokens.{is_name, is_lang, is_end, are_name, are_lang, iri_rest, str_rest, is_token}
+use Rattle.mast_tree.specs.Empty.{is_empty}
+use Rattle.mast_tree.specs.Tokens.{is_name, is_lang, are_name, are_lang, iri_rest, str_rest, is_token}
 use Rattle.mast_tree.specs.inside.Scanner.{name_scan, lang_scan, iri_scan, str_scan, scanned_iri, scanned_str, scanned_carets, scanned_lang, longest_token}
 use Rattle.mast_tree.specs.Source.{IsLongest, NoToken, BeginsWith, IsWrong}
 use Rattle.mast_tree.proofs.ScanLemmas.{name_at_least, name_split, lang_at_least, lang_split, iri_whole, iri_found, str_whole, str_found, chars_endless, endless_chars, chars_bad, bad_found}
@@ -36,7 +37,7 @@ name_bytes : (b : ℕ) → is_name b ≡ true → NameByte b
 unfolding is_name
 name_bytes b h = (name_byte b 40 h refl, name_byte b 41 h refl, name_byte b 61 h refl, name_byte b 94 h refl, name_byte b 64 h refl, name_byte b 60 h refl, name_byte b 34 h refl)
 
-one_byte : (b : ℕ) (w : List ℕ) → is_end w ≡ true → length (b ∷ w) ≡ 1
+one_byte : (b : ℕ) (w : List ℕ) → is_empty w ≡ true → length (b ∷ w) ≡ 1
 one_byte b [] h = omega arith
 one_byte b (c ∷ w) h = absurd (cc)
 
@@ -49,12 +50,12 @@ lang_least c w rest n e h g = elim (cases_Bool (n == 0)) [
 
 pub token_least : (k : TokenKind) (w rest : List ℕ) → is_token k w ≡ true → AtLeast (longest_token (w ++ rest)) k (length w)
 token_least k [] rest h = absurd (cc)
-token_least Open (b ∷ w) rest h = let p = and_parts (b == 40) (is_end w) h in rw p.0 (refl, (let o = one_byte b w p.1 in omega arith))
-token_least Close (b ∷ w) rest h = let p = and_parts (b == 41) (is_end w) h in let s = is_byte b 41 p.0 in subst (λ x. AtLeast (longest_token (x ∷ (w ++ rest))) Close (length (x ∷ w))) (sym s) (refl, (let o = one_byte b w p.1 in omega arith))
-token_least Equals (b ∷ w) rest h = let p = and_parts (b == 61) (is_end w) h in let s = is_byte b 61 p.0 in subst (λ x. AtLeast (longest_token (x ∷ (w ++ rest))) Equals (length (x ∷ w))) (sym s) (refl, (let o = one_byte b w p.1 in omega arith))
+token_least Open (b ∷ w) rest h = let p = and_parts (b == 40) (is_empty w) h in rw p.0 (refl, (let o = one_byte b w p.1 in omega arith))
+token_least Close (b ∷ w) rest h = let p = and_parts (b == 41) (is_empty w) h in let s = is_byte b 41 p.0 in subst (λ x. AtLeast (longest_token (x ∷ (w ++ rest))) Close (length (x ∷ w))) (sym s) (refl, (let o = one_byte b w p.1 in omega arith))
+token_least Equals (b ∷ w) rest h = let p = and_parts (b == 61) (is_empty w) h in let s = is_byte b 61 p.0 in subst (λ x. AtLeast (longest_token (x ∷ (w ++ rest))) Equals (length (x ∷ w))) (sym s) (refl, (let o = one_byte b w p.1 in omega arith))
 token_least Carets (b ∷ []) rest h = absurd (cc)
 token_least Carets (b ∷ c ∷ w) rest h =
-    let p = and_parts (b == 94 && c == 94) (is_end w) h in
+    let p = and_parts (b == 94 && c == 94) (is_empty w) h in
     let q = and_parts (b == 94) (c == 94) p.0 in
     let s = is_byte b 94 q.0 in
     let t = is_byte c 94 q.1 in

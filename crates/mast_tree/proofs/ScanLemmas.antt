@@ -5,7 +5,8 @@ use Rattle.std.proofs.lemmas.Bool.{and_parts, cases_Bool}
 use Rattle.mast_source.proofs.ByteLemmas.{is_byte}
 use Rattle.mast_tree.specs.declared.scanner.Enclosed.{Enclosed}
 use Rattle.mast_tree.specs.declared.scanner.Enclosed.TheVariants.{Whole, Endless, Bad}
-use Rattle.mast_tree.specs.Tokens.{is_name, is_lang, is_iri, is_end, are_name, are_lang, iri_rest, str_rest, are_chars, is_blank, are_blank, ends_blank}
+use Rattle.mast_tree.specs.Empty.{is_empty}
+use Rattle.mast_tree.specs.Tokens.{is_name, is_lang, is_iri, are_name, are_lang, iri_rest, str_rest, are_chars, is_blank, are_blank, ends_blank}
 use Rattle.mast_tree.specs.inside.Scanner.{name_scan, lang_scan, iri_scan, str_scan, blank_scan}
 use Rattle.mast_tree.specs.Source.{NoBlank, NoEscape}
 
@@ -78,7 +79,7 @@ iri_whole (b ∷ bs) rest at h = elim (cases_Bool (b == 62)) [
       rw (e, p.0) (iri_whole bs rest (at + 1) p.1 ∙ ap Whole (omega arith))
 ]
   where
-    last : (bs : List ℕ) → is_end bs ≡ true → ◌≡◌ {A = Enclosed} (Whole (at + 1)) (Whole (at + length (b ∷ bs)))
+    last : (bs : List ℕ) → is_empty bs ≡ true → ◌≡◌ {A = Enclosed} (Whole (at + 1)) (Whole (at + length (b ∷ bs)))
     last [] h = ap Whole (omega arith)
     last (c ∷ cs) h = absurd (cc)
 
@@ -114,7 +115,7 @@ str_whole (b ∷ bs) rest at false h = elim (cases_Bool (b == 34)) [
   | inr e ↦ rw e (str_whole bs rest (at + 1) (b == 92) (rw e at h) ∙ ap Whole (omega arith))
 ]
   where
-    last : (bs : List ℕ) → is_end bs ≡ true → ◌≡◌ {A = Enclosed} (Whole (at + 1)) (Whole (at + length (b ∷ bs)))
+    last : (bs : List ℕ) → is_empty bs ≡ true → ◌≡◌ {A = Enclosed} (Whole (at + 1)) (Whole (at + length (b ∷ bs)))
     last [] h = ap Whole (omega arith)
     last (c ∷ cs) h = absurd (cc)
 

@@ -12,7 +12,8 @@ use Rattle.mast_tree.specs.declared.token.TokenKind.TheVariants.{Open, Close, Eq
 use Rattle.mast_tree.specs.declared.token.LexBreach.{LexBreach}
 use Rattle.mast_tree.specs.declared.scanner.Scanned.{Scanned}
 use Rattle.mast_tree.specs.declared.scanner.Scanned.TheVariants as scanned
-use Rattle.mast_tree.specs.Tokens.{is_name, is_blank, are_blank, is_token, is_end, iri_rest, str_rest, are_name, are_lang, is_lang, feeds}
+use Rattle.mast_tree.specs.Empty.{is_empty}
+use Rattle.mast_tree.specs.Tokens.{is_name, is_blank, are_blank, is_token, iri_rest, str_rest, are_name, are_lang, is_lang, feeds}
 use Rattle.mast_tree.specs.inside.Scanner.{blank_scan, longest_token}
 use Rattle.mast_tree.specs.Source.{IsLongest, Lexes, NoBlank, Stops}
 use Rattle.mast_tree.specs.inside.Lexed.{Lexed, read, wrong, added, on_scanned, on_rest, lexed}
@@ -41,11 +42,11 @@ name_no_blank b h = (rw (other_byte is_name b 32 h refl, other_byte is_name b 9 
 token_no_blank : (k : TokenKind) (w rest : List ℕ) → is_token k w ≡ true → NoBlank (w ++ rest)
 unfolding is_blank
 token_no_blank k [] rest h = absurd (cc)
-token_no_blank Open (b ∷ w) rest h = let p = and_parts (b == 40) (is_end w) h in blank_byte b 40 p.0 refl refl
-token_no_blank Close (b ∷ w) rest h = let p = and_parts (b == 41) (is_end w) h in blank_byte b 41 p.0 refl refl
-token_no_blank Equals (b ∷ w) rest h = let p = and_parts (b == 61) (is_end w) h in blank_byte b 61 p.0 refl refl
+token_no_blank Open (b ∷ w) rest h = let p = and_parts (b == 40) (is_empty w) h in blank_byte b 40 p.0 refl refl
+token_no_blank Close (b ∷ w) rest h = let p = and_parts (b == 41) (is_empty w) h in blank_byte b 41 p.0 refl refl
+token_no_blank Equals (b ∷ w) rest h = let p = and_parts (b == 61) (is_empty w) h in blank_byte b 61 p.0 refl refl
 token_no_blank Carets (b ∷ []) rest h = absurd (cc)
-token_no_blank Carets (b ∷ c ∷ w) rest h = let p = and_parts (b == 94 && c == 94) (is_end w) h in let q = and_parts (b == 94) (c == 94) p.0 in blank_byte b 94 q.0 refl refl
+token_no_blank Carets (b ∷ c ∷ w) rest h = let p = and_parts (b == 94 && c == 94) (is_empty w) h in let q = and_parts (b == 94) (c == 94) p.0 in blank_byte b 94 q.0 refl refl
 token_no_blank Lang (b ∷ []) rest h = absurd (cc)
 token_no_blank Lang (b ∷ c ∷ w) rest h = let p = and_parts (b == 64 && is_lang c) (are_lang w) h in let q = and_parts (b == 64) (is_lang c) p.0 in blank_byte b 64 q.0 refl refl
 token_no_blank Iri (b ∷ w) rest h = let p = and_parts (b == 60) (iri_rest w) h in blank_byte b 60 p.0 refl refl

@@ -15,12 +15,13 @@ use Rattle.mast_source.proofs.Utf8Lemmas.{EndsAscii, ends_more, cut_last, cut_be
 use Rattle.mast_tree.specs.declared.token.Token.{Token}
 use Rattle.mast_tree.specs.declared.token.TokenKind.{TokenKind}
 use Rattle.mast_tree.specs.declared.token.TokenKind.TheVariants.{Open, Close, Equals, Carets, Lang, Iri, Name, Str}
-use Rattle.mast_tree.specs.Tokens.{is_name, is_lang, is_iri, feeds, is_blank, is_end, are_name, are_lang, are_blank, iri_rest, str_rest, is_token}
+use Rattle.mast_tree.specs.Empty.{is_empty}
+use Rattle.mast_tree.specs.Tokens.{is_name, is_lang, is_iri, feeds, is_blank, are_name, are_lang, are_blank, iri_rest, str_rest, is_token}
 use Rattle.mast_tree.specs.Source.{IsLongest, Lexes, AreTokens}
 use Rattle.mast_tree.specs.Words.{span}
 use Rattle.mast_source.proofs.ByteLemmas.{is_byte}
 
-ends_one : (b n : ℕ) (w : List ℕ) → b ≡ n → n < 128 → is_end w ≡ true → EndsAscii (b ∷ w)
+ends_one : (b n : ℕ) (w : List ℕ) → b ≡ n → n < 128 → is_empty w ≡ true → EndsAscii (b ∷ w)
 ends_one b n [] e l h = ([], b, refl, omega arith)
 ends_one b n (c ∷ w) e l h = absurd (cc)
 
@@ -84,7 +85,7 @@ iri_inside (b ∷ w) h = elim (cases_Bool (b == 62)) [
       (b ∷ t.0, ap (λ x. b ∷ x) t.1)
 ]
   where
-    only : (w : List ℕ) → is_end w ≡ true → b ≡ 62 → (inner : List ℕ) × (b ∷ w ≡ inner ++ (62 ∷ []))
+    only : (w : List ℕ) → is_empty w ≡ true → b ≡ 62 → (inner : List ℕ) × (b ∷ w ≡ inner ++ (62 ∷ []))
     only [] h s = ([], ap (λ x. x ∷ []) s)
     only (c ∷ w) h s = absurd (cc)
 
@@ -105,7 +106,7 @@ str_inside (b ∷ w) false h = elim (cases_Bool (b == 34)) [
   | inr e ↦ go (b == 92) refl (str_inside w (b == 92) (rw e at h)) e
 ]
   where
-    only : (w : List ℕ) → is_end w ≡ true → b ≡ 34 → StrInside false (b ∷ w)
+    only : (w : List ℕ) → is_empty w ≡ true → b ≡ 34 → StrInside false (b ∷ w)
     only [] h s = ([], ap (λ x. x ∷ []) s)
     only (c ∷ w) h s = absurd (cc)
 
@@ -115,12 +116,12 @@ str_inside (b ∷ w) false h = elim (cases_Bool (b == 34)) [
 
 token_last : (k : TokenKind) (w : List ℕ) → is_token k w ≡ true → (k ≡ Name) ⊎ EndsAscii w
 token_last k [] h = absurd (cc)
-token_last Open (b ∷ w) h = let p = and_parts (b == 40) (is_end w) h in inr (ends_one b 40 w (is_byte b 40 p.0) (omega arith) p.1)
-token_last Close (b ∷ w) h = let p = and_parts (b == 41) (is_end w) h in inr (ends_one b 41 w (is_byte b 41 p.0) (omega arith) p.1)
-token_last Equals (b ∷ w) h = let p = and_parts (b == 61) (is_end w) h in inr (ends_one b 61 w (is_byte b 61 p.0) (omega arith) p.1)
+token_last Open (b ∷ w) h = let p = and_parts (b == 40) (is_empty w) h in inr (ends_one b 40 w (is_byte b 40 p.0) (omega arith) p.1)
+token_last Close (b ∷ w) h = let p = and_parts (b == 41) (is_empty w) h in inr (ends_one b 41 w (is_byte b 41 p.0) (omega arith) p.1)
+token_last Equals (b ∷ w) h = let p = and_parts (b == 61) (is_empty w) h in inr (ends_one b 61 w (is_byte b 61 p.0) (omega arith) p.1)
 token_last Carets (b ∷ []) h = absurd (cc)
 token_last Carets (b ∷ c ∷ w) h =
-    let p = and_parts (b == 94 && c == 94) (is_end w) h in
+    let p = and_parts (b == 94 && c == 94) (is_empty w) h in
     let q = and_parts (b == 94) (c == 94) p.0 in
     inr (ends_more b (c ∷ w) (ends_one c 94 w (is_byte c 94 q.1) (omega arith) p.1))
 token_last Lang (b ∷ []) h = absurd (cc)

@@ -27,14 +27,20 @@ pub record IsRight (doc : Document) (word : List ℕ) (judged : Judging) (old ne
   pub right : AreRight old (judged prefixes inside ++ after_judged doc after) new
   pub gives : P prefixes inside
 
--- the first breach of what is judged behind the prologue
-pub record IsInnerBreach (doc : Document) (word : List ℕ) (judged : Judging) (old : Lists) (breach : ShapeBreach) : Type 0 where
+-- P holds of the prefixes of the document, of the inside of its main node, and of what follows it
+pub record IsInnerBreach (doc : Document) (word : List ℕ) (P : Prefixes → List Item → List Item → Type 0) : Type 0 where
   pub prefixes : Prefixes
   pub inside : List Item
   pub after : List Item
   pub parts : HasParts doc word prefixes inside after
-  pub first : first_breach old (judged prefixes inside ++ after_judged doc after) ≡ Some breach
+  pub first : P prefixes inside after
+
+-- the first breach of what is judged of these three
+abbrev pub IsJudgedBreach : Document → Judging → Lists → ShapeBreach → Prefixes → List Item → List Item → Type 0
+IsJudgedBreach doc judged old breach prefixes inside after =
+    first_breach old (judged prefixes inside ++ after_judged doc after) ≡ Some breach
 
 -- the first breach of the document: that of its prologue, or else that of what is judged behind it
 abbrev pub IsFirstBreach : Document → List ℕ → Judging → Lists → ShapeBreach → Type 0
-IsFirstBreach doc word judged old breach = IsFrontBreach doc word breach ⊎ IsInnerBreach doc word judged old breach
+IsFirstBreach doc word judged old breach =
+    IsFrontBreach doc word breach ⊎ IsInnerBreach doc word (IsJudgedBreach doc judged old breach)

@@ -1,5 +1,5 @@
 -- What is judged of a document, item by item in preorder, and the first breach of that.
-use Rattle.std.specs.Prelude.{◌≡◌, ℕ, List, [], ◌∷◌, Option, Some, None, Result}
+use Rattle.std.specs.Prelude.{◌≡◌, ℕ, List, [], ◌∷◌, Option, Some, None, Result, Ok, Err}
 use Rattle.mast_terms.specs.declared.memory.Stop.{Stop}
 use Rattle.mast_terms.specs.declared.name.AddRefusal.{AddRefusal}
 use Rattle.mast_terms.specs.declared.name.AddRefusal.TheVariants as refusal
@@ -16,6 +16,11 @@ pub data Judgement : Type 0 where
   uses : NameKind → List ℕ → ℕ → Judgement
   numbers : Value → ℕ → Judgement
   breaks : ShapeKind → ℕ → Judgement
+
+-- what is judged of what may be wrong whatever the names
+abbrev pub breach_judged : {T : Type 0} → Result T ShapeBreach → List Judgement
+breach_judged (Ok given) = []
+breach_judged (Err breach) = breaks breach.kind breach.line ∷ []
 
 -- the names and constants once this is judged
 abbrev pub after_one : Lists → Judgement → Lists

@@ -51,8 +51,12 @@ SpanLaw = (source : List ℕ) (tokens : List Token) → AreTokens source tokens 
 
 -- the items of a document have one table of prefixes up to the main node, or one first breach, and not both
 pub record HasOnePrologue (source : List ℕ) (tokens : List Token) (word : List ℕ) (items : List Item) : Type 0 where
-  pub either : ((table : List (List ℕ × List ℕ)) × IsPrologue source tokens word items table) ⊎ ((breach : ShapeBreach) × IsPrologueBreach source tokens word items breach)
-  pub not_both : (table : List (List ℕ × List ℕ)) (breach : ShapeBreach) → IsPrologue source tokens word items table → IsPrologueBreach source tokens word items breach → ⊥
+  pub either :
+      ((table : List (List ℕ × List ℕ)) × IsPrologue source tokens word items table)
+      ⊎ ((breach : ShapeBreach) × IsPrologueBreach source tokens word items breach)
+  pub not_both :
+      (table : List (List ℕ × List ℕ)) (breach : ShapeBreach)
+      → IsPrologue source tokens word items table → IsPrologueBreach source tokens word items breach → ⊥
   pub one_table : (a b : List (List ℕ × List ℕ)) → IsPrologue source tokens word items a → IsPrologue source tokens word items b → a ≡ b
   pub one_breach : (a b : ShapeBreach) → IsPrologueBreach source tokens word items a → IsPrologueBreach source tokens word items b → a ≡ b
 

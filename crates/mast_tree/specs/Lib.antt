@@ -1,4 +1,5 @@
 pub mod Documents
+pub mod Empty
 pub mod Grammar
 pub mod Laws
 pub mod Prefixes
@@ -19,3 +20,4 @@ pub mod MainNode
 pub mod Judged
 pub mod Growing
 pub mod Seen
+pub mod Pages

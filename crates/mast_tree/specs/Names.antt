@@ -1,5 +1,5 @@
 -- The names that a document uses: IRIs in the place of a class, a role or an attribute.
-use Rattle.std.specs.Prelude.{◌≡◌, ℕ, ◌||◌, Bool, nat_eq, if◌then◌else◌, List, [], ◌∷◌, Some, Result, Ok, Err, codes, slice_get}
+use Rattle.std.specs.Prelude.{◌≡◌, ◌<◌, ℕ, ◌||◌, Bool, nat_eq, if◌then◌else◌, List, [], ◌∷◌, length, Some, Result, Ok, Err, codes, slice_get}
 use Rattle.std.specs.List.{starts_with}
 use Rattle.mast_terms.specs.declared.memory.Stop.{Stop}
 use Rattle.mast_terms.specs.declared.name.Name.{Name}
@@ -33,6 +33,10 @@ iri_named doc prefixes item = iri_of doc.source doc.tokens prefixes item
 -- what is judged of an item in the place of a name
 abbrev pub name_judged : NameKind → Document → List (List ℕ × List ℕ) → Item → List Judgement
 name_judged kind doc prefixes item = iri_judged kind (iri_named doc prefixes item) (line (said doc item))
+
+-- the number is that of an IRI among those of its kind
+abbrev pub StandsIn : Lists → NameKind → ℕ → Type 0
+StandsIn lists kind n = n < length (iris lists kind)
 
 -- the name that the item says: the number that its IRI has among those of its kind
 abbrev pub IsName : Lists → NameKind → Document → List (List ℕ × List ℕ) → Item → Name → Type 0

@@ -16,11 +16,14 @@ IsNode source tokens word item inside = (t : ℕ) × (out-Item item ≡ Item-F.N
 
 -- a binding of an IRI to a prefix: the one colon of its name stands at the end
 abbrev pub Binds : List ℕ → List Token → Item → List ℕ → List ℕ → Type 0
-Binds source tokens item prefix iri = (t v : ℕ) × (out-Item item ≡ Item-F.Bind t v) × (colon_split (word_of source tokens t) ≡ Some (prefix, [])) × (word_of source tokens v ≡ iri)
+Binds source tokens item prefix iri =
+    (t v : ℕ) × (out-Item item ≡ Item-F.Bind t v)
+    × (colon_split (word_of source tokens t) ≡ Some (prefix, [])) × (word_of source tokens v ≡ iri)
 
 -- a `Prefix` node, in which one binding stands
 abbrev pub IsPrefixNode : List ℕ → List Token → Item → List ℕ → List ℕ → Type 0
-IsPrefixNode source tokens item prefix iri = (only : Item) × IsNode source tokens (codes "Prefix") item (only ∷ []) × Binds source tokens only prefix iri
+IsPrefixNode source tokens item prefix iri =
+    (only : Item) × IsNode source tokens (codes "Prefix") item (only ∷ []) × Binds source tokens only prefix iri
 
 -- not the main node, whose word is given
 abbrev pub IsOther : List ℕ → List Token → List ℕ → Item → Type 0
@@ -31,7 +34,9 @@ abbrev pub ArePrefixNodes : List ℕ → List Token → List ℕ → List Item �
 ArePrefixNodes source tokens word [] [] = Unit {0}
 ArePrefixNodes source tokens word [] (e ∷ es) = ⊥
 ArePrefixNodes source tokens word (item ∷ items) [] = ⊥
-ArePrefixNodes source tokens word (item ∷ items) (e ∷ es) = IsOther source tokens word item × IsPrefixNode source tokens item e.0 e.1 × ArePrefixNodes source tokens word items es
+ArePrefixNodes source tokens word (item ∷ items) (e ∷ es) =
+    IsOther source tokens word item × IsPrefixNode source tokens item e.0 e.1
+    × ArePrefixNodes source tokens word items es
 
 -- no prefix twice
 abbrev pub EachOnce : List (List ℕ × List ℕ) → Type 0
@@ -57,14 +62,16 @@ IsWrongNode source tokens table item =
 
 -- the one item of a `Prefix` node, which binds no prefix
 abbrev pub IsWrongBinding : List ℕ → List Token → Item → Item → Type 0
-IsWrongBinding source tokens item only = IsNode source tokens (codes "Prefix") item (only ∷ []) × ((prefix iri : List ℕ) → Binds source tokens only prefix iri → ⊥)
+IsWrongBinding source tokens item only =
+    IsNode source tokens (codes "Prefix") item (only ∷ []) × ((prefix iri : List ℕ) → Binds source tokens only prefix iri → ⊥)
 
 -- what stands behind the prefixes is no main node and no further prefix, and the line of that; line 1 at the end
 abbrev pub IsWrongFrom : List ℕ → List Token → List ℕ → List (List ℕ × List ℕ) → List Item → ℕ → Type 0
 IsWrongFrom source tokens word table [] line = line ≡ 1
 IsWrongFrom source tokens word table (item ∷ items) line =
     IsOther source tokens word item
-    × ((IsWrongNode source tokens table item × (line ≡ line_of tokens (first_of item))) ⊎ ((only : Item) × IsWrongBinding source tokens item only × (line ≡ line_of tokens (first_of only))))
+    × ((IsWrongNode source tokens table item × (line ≡ line_of tokens (first_of item)))
+    ⊎ ((only : Item) × IsWrongBinding source tokens item only × (line ≡ line_of tokens (first_of only))))
 
 -- the first breach of the prologue: behind prefixes, each once
 pub record IsPrologueBreach (source : List ℕ) (tokens : List Token) (word : List ℕ) (items : List Item) (breach : ShapeBreach) : Type 0 where

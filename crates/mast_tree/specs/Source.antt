@@ -50,7 +50,9 @@ IsWrong NotUtf8 n bytes = ⊥
 IsWrong Character n bytes = (n ≡ 0) × (BeginsWith less bytes → ⊥) × (BeginsWith quote bytes → ⊥)
 IsWrong OpenIri n bytes = (n ≡ 0) × BeginsWith less bytes
 IsWrong OpenString n bytes = (n ≡ 0) × (chars : List ℕ) × (bytes ≡ quote ∷ chars) × (are_chars false chars ≡ true)
-IsWrong Escape n bytes = (chars rest : List ℕ) × (bytes ≡ quote ∷ (chars ++ (backslash ∷ rest))) × (are_chars false chars ≡ true) × NoEscape rest × (n ≡ length chars + 1)
+IsWrong Escape n bytes =
+    (chars rest : List ℕ) × (bytes ≡ quote ∷ (chars ++ (backslash ∷ rest)))
+    × (are_chars false chars ≡ true) × NoEscape rest × (n ≡ length chars + 1)
 
 -- after these tokens and a gap something else stands: the breach
 abbrev pub Stops : ℕ → List ℕ → List Token → LexBreach → Type 0

@@ -1,6 +1,7 @@
 -- The forms of tokens, and what stands between them.
 use Rattle.std.specs.Prelude.{ℕ, ◌+◌, ◌==◌, ◌&&◌, ◌||◌, nat_lt, Bool, true, false, not, if◌then◌else◌, List, [], ◌∷◌}
 use Rattle.mast_source.specs.Bytes.{open_parenthesis, close_parenthesis, equals, caret, at_sign, less, greater, quote, backslash, hash, underscore, dash, dot, colon, percent, question, space, tab, carriage_return, line_feed, is_lower, is_upper, is_digit, is_beyond_ascii}
+use Rattle.mast_tree.specs.Empty.{is_empty}
 use Rattle.mast_tree.specs.declared.token.TokenKind.{TokenKind}
 use Rattle.mast_tree.specs.declared.token.TokenKind.TheVariants.{Open, Close, Equals, Carets, Lang, Iri, Name, Str}
 
@@ -22,11 +23,6 @@ is_iri b = nat_lt space b && not (b == less) && not (b == greater) && not (b == 
 unfoldable pub is_blank : ℕ → Bool
 is_blank b = b == space || b == tab || b == carriage_return || b == line_feed
 
--- nothing more
-abbrev pub is_end : List ℕ → Bool
-is_end [] = true
-is_end (b ∷ bs) = false
-
 -- bytes of a name
 abbrev pub are_name : List ℕ → Bool
 are_name [] = true
@@ -40,13 +36,13 @@ are_lang (b ∷ bs) = is_lang b && are_lang bs
 -- what stands after `<`: characters, and the `>`
 abbrev pub iri_rest : List ℕ → Bool
 iri_rest [] = false
-iri_rest (b ∷ bs) = if b == greater then is_end bs else is_iri b && iri_rest bs
+iri_rest (b ∷ bs) = if b == greater then is_empty bs else is_iri b && iri_rest bs
 
 -- what stands after `"`: characters, and the closing quote; the Bool says whether a backslash stands before
 abbrev pub str_rest : Bool → List ℕ → Bool
 str_rest escaped [] = false
 str_rest true (b ∷ bs) = (b == quote || b == backslash) && str_rest false bs
-str_rest false (b ∷ bs) = if b == quote then is_end bs else str_rest (b == backslash) bs
+str_rest false (b ∷ bs) = if b == quote then is_empty bs else str_rest (b == backslash) bs
 
 -- characters of a string, each whole, none of them the closing quote; the Bool says whether a backslash stands before
 abbrev pub are_chars : Bool → List ℕ → Bool
@@ -57,11 +53,11 @@ are_chars false (b ∷ bs) = if b == quote then false else are_chars (b == backs
 -- the form of a token of each kind
 abbrev pub is_token : TokenKind → List ℕ → Bool
 is_token k [] = false
-is_token Open (b ∷ bs) = b == open_parenthesis && is_end bs
-is_token Close (b ∷ bs) = b == close_parenthesis && is_end bs
-is_token Equals (b ∷ bs) = b == equals && is_end bs
+is_token Open (b ∷ bs) = b == open_parenthesis && is_empty bs
+is_token Close (b ∷ bs) = b == close_parenthesis && is_empty bs
+is_token Equals (b ∷ bs) = b == equals && is_empty bs
 is_token Carets (b ∷ []) = false
-is_token Carets (b ∷ c ∷ bs) = b == caret && c == caret && is_end bs
+is_token Carets (b ∷ c ∷ bs) = b == caret && c == caret && is_empty bs
 is_token Lang (b ∷ []) = false
 is_token Lang (b ∷ c ∷ bs) = b == at_sign && is_lang c && are_lang bs
 is_token Iri (b ∷ bs) = b == less && iri_rest bs

@@ -7,8 +7,8 @@ ghost use Rattle.mast_tree.specs.Results.{Gives};
 ghost use Rattle.mast_tree.specs.Said.{said};
 ghost use Rattle.mast_tree.specs.Seen.{seen};
 
-use crate::prefix::{first_token, shape};
-use crate::{Doc, Item, Layer, ShapeBreach, ShapeKind};
+use crate::prefix::first_token;
+use crate::{Doc, Item, Layer, ShapeBreach, ShapeKind, wrong};
 use mast_terms::{Stop, Value, read_date, read_int};
 use std::alloc::Global;
 
@@ -47,7 +47,7 @@ fn date_of(text: &str, line: u32) -> Result<Value, Stop<ShapeBreach>>
 {
     match read_date(text.as_bytes()) {
         Ok(date) => Ok(Value::Date(date)),
-        Err(_) => Err(shape(line, ShapeKind::BadConstant)),
+        Err(_) => Err(wrong(line, ShapeKind::BadConstant)),
     }
 }
 
@@ -72,14 +72,15 @@ impl<'a> Doc<'a> {
     /// Another form is a Shape breach: at the node's line where its word or its number of items is another, else at the line of its
     /// item. A number or a date that no cell of a table would be is BadConstant at the line of its item.
     pub fn constant(&self, alloc: Global, item: &Item) -> Result<Value, Stop<ShapeBreach>>
-        ensures { (dates : List ℕ → Option ADate) → spec.AreDates dates → Gives result (spec.constant_of dates (seen self.now) (said (seen self.now) item.now)) }
+        ensures { (dates : List ℕ → Option ADate) → spec.AreDates dates
+            → Gives result (spec.constant_of dates (seen self.now) (said (seen self.now) item.now)) }
     {
         match self.layer(item) {
             Layer::Node { word, line, items } => match items {
                 [only] => self.constant_in(alloc, word, line, only),
-                _ => Err(shape(line, ShapeKind::Shape)),
+                _ => Err(wrong(line, ShapeKind::Shape)),
             },
-            _ => Err(shape(self.line(first_token(item)), ShapeKind::Shape)),
+            _ => Err(wrong(self.line(first_token(item)), ShapeKind::Shape)),
         }
     }
 
@@ -91,7 +92,8 @@ impl<'a> Doc<'a> {
         line: u32,
         only: &Item,
     ) -> Result<Value, Stop<ShapeBreach>>
-        ensures { (dates : List ℕ → Option ADate) → spec.AreDates dates → Gives result (spec.constant_in dates word.now line (said (seen self.now) only.now ∷ [])) }
+        ensures { (dates : List ℕ → Option ADate) → spec.AreDates dates
+            → Gives result (spec.constant_in dates word.now line (said (seen self.now) only.now ∷ [])) }
     {
         if word == "Int" {
             self.integer(only)
@@ -100,7 +102,7 @@ impl<'a> Doc<'a> {
         } else if word == "Date" {
             self.date(alloc, only)
         } else {
-            Err(shape(line, ShapeKind::Shape))
+            Err(wrong(line, ShapeKind::Shape))
         }
     }
 
@@ -111,9 +113,9 @@ impl<'a> Doc<'a> {
         match self.layer(item) {
             Layer::Name { word, line } => match read_int(word.as_bytes()) {
                 Ok(number) => Ok(Value::Int(number)),
-                Err(_) => Err(shape(line, ShapeKind::BadConstant)),
+                Err(_) => Err(wrong(line, ShapeKind::BadConstant)),
             },
-            _ => Err(shape(self.line(first_token(item)), ShapeKind::Shape)),
+            _ => Err(wrong(self.line(first_token(item)), ShapeKind::Shape)),
         }
     }
 
@@ -123,7 +125,7 @@ impl<'a> Doc<'a> {
     {
         match self.layer(item) {
             Layer::Text { token, .. } => Ok(Value::Text(self.text(alloc, token)?)),
-            _ => Err(shape(self.line(first_token(item)), ShapeKind::Shape)),
+            _ => Err(wrong(self.line(first_token(item)), ShapeKind::Shape)),
         }
     }
 
@@ -136,7 +138,7 @@ impl<'a> Doc<'a> {
                 let text = self.text(alloc, token)?;
                 date_of(text.as_str(), line)
             }
-            _ => Err(shape(self.line(first_token(item)), ShapeKind::Shape)),
+            _ => Err(wrong(self.line(first_token(item)), ShapeKind::Shape)),
         }
     }
 }

@@ -1,7 +1,7 @@
 //! What an item says, as the readers of documents see it.
 ghost use Rattle.std.specs.Prelude.{◌≡◌};
 ghost use Rattle.mast_tree.specs.Layers.{shown};
-ghost use Rattle.mast_tree.specs.Said.{said};
+ghost use Rattle.mast_tree.specs.Said.{line as line_of, said};
 ghost use Rattle.mast_tree.specs.Seen.{seen};
 
 use crate::{Doc, Item};
@@ -72,6 +72,20 @@ impl<'a> Doc<'a> {
                 line: self.line(*token),
                 items: items.get().as_slice(),
             },
+        }
+    }
+
+    /// The line of an item's first token, from 1.
+    pub fn item_line(&self, item: &Item) -> u32
+        ensures { result ≡ line_of (said (seen self.now) item.now) }
+    {
+        match self.layer(item) {
+            Layer::Name { line, .. } => line,
+            Layer::Iri { line, .. } => line,
+            Layer::Text { line, .. } => line,
+            Layer::Tagged { line } => line,
+            Layer::Binding { line } => line,
+            Layer::Node { line, .. } => line,
         }
     }
 }

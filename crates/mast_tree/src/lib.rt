@@ -23,13 +23,13 @@ mod words;
 
 pub use constants::is_identifier;
 pub use document::{Doc, DocName, read_doc};
-pub use item::{Item, TreeBreach, TreeKind};
+pub use item::{Item, MOST_OPEN, TreeBreach, TreeKind};
 pub use laws::{prologue_law, span_law, token_law, tree_law};
 pub use layer::Layer;
 pub use main_node::Parts;
 pub use names::is_standard;
 pub use prefix::PrefixTable;
 pub use prologue::prefixes;
-pub use shape::{ShapeBreach, ShapeKind};
+pub use shape::{ShapeBreach, ShapeKind, wrong};
 pub use token::{LexBreach, LexKind, Token, TokenKind};
 pub use token_list::tokens;

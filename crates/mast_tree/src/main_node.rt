@@ -8,8 +8,8 @@ ghost use Rattle.mast_tree.specs.Judgements.{Judges};
 ghost use Rattle.mast_tree.specs.MainNode as spec;
 ghost use Rattle.mast_tree.specs.Seen.{seen};
 
-use crate::prefix::{first_token, shape};
-use crate::{Doc, Item, Layer, PrefixTable, ShapeBreach, ShapeKind, prefixes};
+use crate::prefix::first_token;
+use crate::{Doc, Item, Layer, PrefixTable, ShapeBreach, ShapeKind, prefixes, wrong};
 use mast_terms::Stop;
 use std::alloc::Global;
 
@@ -60,7 +60,7 @@ impl<'a> Doc<'a> {
                 inside,
                 after,
             }),
-            None => Err(shape(1, ShapeKind::Shape)),
+            None => Err(wrong(1, ShapeKind::Shape)),
         }
     }
 
@@ -70,7 +70,7 @@ impl<'a> Doc<'a> {
     {
         match items {
             [] => Ok(()),
-            [item, ..] => Err(shape(self.line(first_token(item)), ShapeKind::Shape)),
+            [item, ..] => Err(wrong(self.line(first_token(item)), ShapeKind::Shape)),
         }
     }
 }

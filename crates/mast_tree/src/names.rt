@@ -3,8 +3,8 @@ ghost use Rattle.std.specs.Prelude.{◌≡◌};
 ghost use Rattle.mast_tree.specs.Names.{is_standard, JudgesName};
 ghost use Rattle.mast_tree.specs.Seen.{seen};
 
-use crate::prefix::{first_token, shape};
-use crate::{Doc, Item, PrefixTable, ShapeBreach, ShapeKind};
+use crate::prefix::first_token;
+use crate::{Doc, Item, PrefixTable, ShapeBreach, ShapeKind, wrong};
 use mast_terms::{AddRefusal, Name, NameKind, Stop, Vocabulary};
 use std::alloc::Global;
 
@@ -36,12 +36,12 @@ impl PrefixTable {
         let iri = self.expand(alloc, doc, item)?;
         let line = doc.line(first_token(item));
         if is_standard(iri.as_str().as_bytes()) {
-            return Err(shape(line, ShapeKind::NotDlLite));
+            return Err(wrong(line, ShapeKind::NotDlLite));
         }
         match vocab.add(alloc, kind, iri.as_str()) {
             Ok(name) => Ok(name),
-            Err(Stop::Named(AddRefusal::TwoKinds)) => Err(shape(line, ShapeKind::TwoKinds)),
-            Err(Stop::Named(AddRefusal::Full)) => Err(shape(line, ShapeKind::Names)),
+            Err(Stop::Named(AddRefusal::TwoKinds)) => Err(wrong(line, ShapeKind::TwoKinds)),
+            Err(Stop::Named(AddRefusal::Full)) => Err(wrong(line, ShapeKind::Names)),
             Err(Stop::NoMemory) => Err(Stop::NoMemory),
         }
     }

@@ -1,12 +1,11 @@
 //! The prefixes of a document, and the IRIs that its items name by them.
 ghost use Rattle.std.specs.Prelude.{◌≡◌, ◌++◌, ◌∷◌, [], None, option_copied, OnOk, IfOk};
-ghost use Rattle.mast_terms.specs.declared.memory.Stop.TheVariants as stop;
 ghost use Rattle.mast_tree.specs.inside.Prologue.{IsAdded, parts_of};
 ghost use Rattle.mast_tree.specs.Prefixes as spec;
 ghost use Rattle.mast_tree.specs.Results.{Gives};
 ghost use Rattle.mast_tree.specs.Tables.{shown};
 
-use crate::{Doc, Item, ShapeBreach, ShapeKind};
+use crate::{Doc, Item, ShapeBreach, ShapeKind, wrong};
 use indexmap::IndexMap;
 use mast_terms::{NoMemory, Stop, Text};
 use std::alloc::Global;
@@ -25,13 +24,6 @@ impl Model for PrefixTable {
     ghost Value = { p.List (p.List p.ℕ × p.List p.ℕ) };
 
     ghost view = { λ t. shown_entries t.namespaces.entries };
-}
-
-// A breach at a line.
-pub(crate) fn shape(line: u32, kind: ShapeKind) -> Stop<ShapeBreach>
-    ensures { result ≡ stop.Named (record { line = line; kind = kind }) }
-{
-    Stop::Named(ShapeBreach { line, kind })
 }
 
 // The number of the first token of an item.
@@ -138,13 +130,13 @@ impl PrefixTable {
         match item {
             Item::Iri { token } => Ok(Text::from_str(alloc, doc.word(*token))?),
             Item::Leaf { token } => match split(doc.word(*token)) {
-                None => Err(shape(doc.line(*token), ShapeKind::Shape)),
+                None => Err(wrong(doc.line(*token), ShapeKind::Shape)),
                 Some((prefix, name)) => match self.namespace(prefix) {
-                    None => Err(shape(doc.line(*token), ShapeKind::UnknownPrefix)),
+                    None => Err(wrong(doc.line(*token), ShapeKind::UnknownPrefix)),
                     Some(namespace) => Ok(joined(alloc, namespace, name)?),
                 },
             },
-            _ => Err(shape(doc.line(first_token(item)), ShapeKind::Shape)),
+            _ => Err(wrong(doc.line(first_token(item)), ShapeKind::Shape)),
         }
     }
 }

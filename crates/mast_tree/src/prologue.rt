@@ -6,8 +6,8 @@ ghost use Rattle.mast_tree.specs.Prologue.{AnswersPrologue};
 ghost use Rattle.mast_tree.specs.Results.{Gives};
 ghost use Rattle.mast_tree.specs.declared.item.Item.{out-Item};
 
-use crate::prefix::{first_token, shape, split};
-use crate::{Doc, Item, PrefixTable, ShapeBreach, ShapeKind};
+use crate::prefix::{first_token, split};
+use crate::{Doc, Item, PrefixTable, ShapeBreach, ShapeKind, wrong};
 use mast_terms::Stop;
 use std::alloc::Global;
 
@@ -73,15 +73,15 @@ fn read_prefixes(alloc: Global, doc: &Doc, word: &str) -> Result<PrefixTable, St
     for item in doc.items.as_slice() {
         match part_of(doc, item, word) {
             Part::Main => return Ok(table),
-            Part::Wrong(line) => return Err(shape(line, ShapeKind::Shape)),
+            Part::Wrong(line) => return Err(wrong(line, ShapeKind::Shape)),
             Part::Prefix(prefix, namespace) => {
                 if !table.add(alloc, prefix, namespace)? {
-                    return Err(shape(doc.line(first_token(item)), ShapeKind::Shape));
+                    return Err(wrong(doc.line(first_token(item)), ShapeKind::Shape));
                 }
             }
         }
     }
-    Err(shape(1, ShapeKind::Shape))
+    Err(wrong(1, ShapeKind::Shape))
 }
 
 /// The prefixes of a document, whose main node has the given word: `Ontology`, `Constraints` or `Mappings`. A breach is

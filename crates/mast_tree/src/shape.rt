@@ -1,4 +1,8 @@
 //! What is wrong with an item in its place.
+ghost use Rattle.std.specs.Prelude.{◌≡◌};
+ghost use Rattle.mast_terms.specs.declared.memory.Stop.TheVariants as stop;
+
+use mast_terms::Stop;
 
 /// Why a tree is no ontology, no constraints or no mappings. The last four are limits.
 #[derive(Clone, Copy, Debug, PartialEq, Eq)]
@@ -28,4 +32,11 @@ pub enum ShapeKind {
 pub struct ShapeBreach {
     pub line: u32,
     pub kind: ShapeKind,
+}
+
+/// A breach of this kind at a line.
+pub fn wrong(line: u32, kind: ShapeKind) -> Stop<ShapeBreach>
+    ensures { result ≡ stop.Named (record { line = line; kind = kind }) }
+{
+    Stop::Named(ShapeBreach { line, kind })
 }

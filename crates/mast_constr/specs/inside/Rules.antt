@@ -21,8 +21,9 @@ use Rattle.mast_tree.specs.Growing.{Begins}
 use Rattle.mast_tree.specs.Judgements.{Judgement, numbers, AreRight, Judges}
 use Rattle.mast_tree.specs.Said.{Said, line}
 use Rattle.mast_expressions.specs.Judged.{role_judged}
-use Rattle.mast_expressions.specs.Pages.{Page, says}
+use Rattle.mast_tree.specs.Pages.{Page, says}
 use Rattle.mast_expressions.specs.Reads.{page}
+use Rattle.mast_constr.specs.inside.Atoms.{placed}
 use Rattle.mast_constr.specs.declared.reader.Reader.{Reader}
 use Rattle.mast_constr.specs.declared.variables.Sort.{Sort}
 use Rattle.mast_constr.specs.inside.Atoms as a
@@ -30,7 +31,7 @@ use Rattle.mast_constr.specs.Denials as d
 use Rattle.mast_constr.specs.Denials.{Dates}
 use Rattle.mast_constr.specs.Items as i
 use Rattle.mast_constr.specs.Paths as p
-use Rattle.mast_constr.specs.Variables.{Variables, variable, sort_of, placed, sort_judged, variable_judged, IsVariable}
+use Rattle.mast_constr.specs.Variables.{Variables, variable, sort_of, sort_judged, variable_judged, IsVariable}
 
 -- the page of a reader
 abbrev pub page_in : Reader → Page
@@ -154,19 +155,19 @@ ReadsSaidConstant page item at old new result =
 abbrev pub ReadsValue : Page → Item → Variables → Variables → Lists → Lists → Result Arg (Stop ShapeBreach) → Type 0
 ReadsValue page item before after old new result =
     (dates : Dates) → AreDates dates → Judges old (d.value_judged dates page before item) new
-    (λ x. (after ≡ d.with_value page before item) × d.IsValue dates new page after item x) result
+    (λ x. (after ≡ a.with_value page before item) × d.IsValue dates new page after item x) result
 
 -- two objects
 abbrev pub ReadsPair : Page → Item → Item → Variables → Variables → Result (Arg × Arg) (Stop ShapeBreach) → Type 0
 ReadsPair page from to before after result =
     (lists : Lists) → Judges lists (d.pair_judged page before from to) lists
-    (λ xy. (after ≡ d.with_object page (d.with_object page before from) to) × d.IsObject page after from xy.0 × d.IsObject page after to xy.1) result
+    (λ xy. (after ≡ a.with_object page (a.with_object page before from) to) × d.IsObject page after from xy.0 × d.IsObject page after to xy.1) result
 
 -- an object and a value
 abbrev pub ReadsFiller : Page → Item → Item → Variables → Variables → Lists → Lists → Result (Arg × Arg) (Stop ShapeBreach) → Type 0
 ReadsFiller page from value before after old new result =
     (dates : Dates) → AreDates dates → Judges old (d.filler_judged dates page before from value) new
-    (λ xy. (after ≡ d.with_value page (d.with_object page before from) value)
+    (λ xy. (after ≡ a.with_value page (a.with_object page before from) value)
     × d.IsObject page after from xy.0 × d.IsValue dates new page after value xy.1) result
 
 -- the inside of an atom's node with a word: the variables once it stood, and the atom
@@ -267,7 +268,8 @@ ReadsConstraint page item old new result =
 abbrev pub PutsConstraint : Page → Item → Lists → Lists → List (Lined Constraint) → List (Lined Constraint)
     → Result (Unit {0}) (Stop ShapeBreach) → Type 0
 PutsConstraint page item old new before after result =
-    (dates : Dates) → AreDates dates → Judges old (i.constraint_judged dates page item) new (λ u. Puts before after (i.IsLined dates new page item)) result
+    (dates : Dates) → AreDates dates → Judges old (i.constraint_judged dates page item) new
+    (λ u. Puts before after (i.IsLined dates new page item)) result
 
 -- some items were read without a breach, and the rest stands before the reader: what the rest gives by later lists makes the whole
 abbrev pub SoFar : Page → List Item → List Item → Lists → Lists → List (Lined Constraint) → Type 0

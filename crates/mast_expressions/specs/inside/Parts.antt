@@ -10,7 +10,8 @@ use Rattle.mast_tree.specs.Judgements.{Judges}
 use Rattle.mast_tree.specs.Said.{line}
 use Rattle.mast_expressions.specs.Given.{IsClassIn, IsAttr, IsRole, IsInverseOf, IsSomeOf, IsSubjectsOf}
 use Rattle.mast_expressions.specs.Judged.{inverse_judged, some_parts, some_judged, subjects_parts, subjects_judged, left_iri}
-use Rattle.mast_expressions.specs.Pages.{Page, says, names, owl_thing, rdfs_literal, Expands}
+use Rattle.mast_tree.specs.Pages.{Page, says, names, Expands}
+use Rattle.mast_expressions.specs.Iris.{owl_thing, rdfs_literal}
 
 -- what stands in `ObjectInverseOf(..)` was read
 abbrev pub ReadsInverse : Page → ℕ → List Item → Lists → Lists → Result Name (Stop ShapeBreach) → Type 0

@@ -8,9 +8,8 @@ use Rattle.mast_tree.specs.declared.item.Item.{Item}
 use Rattle.mast_tree.specs.declared.shape.ShapeBreach.{ShapeBreach}
 use Rattle.mast_tree.specs.Growing.{Begins}
 use Rattle.mast_tree.specs.Judgements.{Judgement, Judges, AreRight, first_breach, after}
-use Rattle.mast_tree.specs.MainNode.{Prefixes}
+use Rattle.mast_tree.specs.Pages.{Page, page_of}
 use Rattle.mast_tree.specs.Said.{said}
-use Rattle.mast_tree.specs.Seen.{Document}
 use Rattle.mast_mapping.specs.declared.doc_reader.DocReader.{DocReader}
 use Rattle.mast_mapping.specs.declared.map.Map.{Map}
 use Rattle.mast_mapping.specs.declared.reader.Contents.{Contents}
@@ -21,14 +20,9 @@ use Rattle.mast_mapping.specs.OverTables.{table_names}
 use Rattle.mast_mapping.specs.Readings.{Texts}
 use Rattle.mast_mapping.specs.inside.Readers.{doc_of}
 
--- a document with its prefixes
-pub record Page : Type 0 where
-  pub doc : Document
-  pub prefixes : Prefixes
-
 -- the page of a reader
-abbrev pub page_of : DocReader → Page
-page_of reader = record { doc = doc_of reader; prefixes = reader.prefixes.now }
+abbrev pub page : DocReader → Page
+page reader = page_of (doc_of reader) reader.prefixes.now
 
 -- the items of a map were read
 abbrev pub ReadsMap : Texts → Page → List TableDecl → ℕ → List Item → Lists → Lists → Result Map (Stop ShapeBreach) → Type 0

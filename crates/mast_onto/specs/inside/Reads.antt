@@ -2,17 +2,15 @@
 use Rattle.std.specs.Prelude.{◌≡◌, Bool, List, ◌++◌, Result, Ok, Option, Some}
 use Rattle.std.specs.List.{flat_map}
 use Rattle.mast_terms.specs.declared.memory.Stop.{Stop}
-use Rattle.mast_terms.specs.declared.name.Name.{Name}
-use Rattle.mast_terms.specs.declared.name.NameKind.{NameKind}
 use Rattle.mast_terms.specs.declared.value.Kind.{Kind}
 use Rattle.mast_terms.specs.Vocabularies.{Lists}
 use Rattle.mast_tbox.specs.declared.expression.Basic.{Basic}
 use Rattle.mast_tbox.specs.Lists.{AreEach}
 use Rattle.mast_tree.specs.declared.item.Item.{Item}
 use Rattle.mast_tree.specs.declared.shape.ShapeBreach.{ShapeBreach}
-use Rattle.mast_tree.specs.Judgements.{Judgement, first_breach, AreRight, Judges}
-use Rattle.mast_expressions.specs.Pages.{Page}
-use Rattle.mast_onto.specs.Axioms.{member_judged, form_judged, breach_judged, type_said, IsMember, IsSubject, IsAxiom}
+use Rattle.mast_tree.specs.Judgements.{Judgement, first_breach, AreRight, Judges, breach_judged}
+use Rattle.mast_tree.specs.Pages.{Page}
+use Rattle.mast_onto.specs.Axioms.{member_judged, form_judged, type_said, IsMember, IsSubject, IsAxiom}
 use Rattle.mast_onto.specs.Nodes.{AxiomForm}
 use Rattle.mast_onto.specs.Rights.{PartForm, part_judged, right_forms, right_judged, IsPart}
 use Rattle.mast_onto.specs.declared.form.Place.{Place}
@@ -38,7 +36,8 @@ ReadsMember page place item old new result = Judges old (member_judged page plac
 
 -- expressions were read
 abbrev pub ReadsMembers : Page → Place → List Item → Lists → Lists → Result (List Expression) (Stop ShapeBreach) → Type 0
-ReadsMembers page place items old new result = Judges old (flat_map (member_judged page place) items) new (AreEach (IsMember page place new) items) result
+ReadsMembers page place items old new result =
+    Judges old (flat_map (member_judged page place) items) new (AreEach (IsMember page place new) items) result
 
 -- the concept of an expression was read
 abbrev pub ReadsSubject : Page → Place → Bool → Item → Lists → Lists → Result Basic (Stop ShapeBreach) → Type 0
@@ -52,7 +51,18 @@ ReadsType page item lists result = Judges lists (breach_judged (type_said page i
 abbrev pub ReadsForm : Page → AxiomForm → Lists → Lists → Result Axiom (Stop ShapeBreach) → Type 0
 ReadsForm page form old new result = Judges old (form_judged page form) new (IsAxiom page new form) result
 
--- elements are read one by one: what is read of the rest makes, with what was read, the whole; and the first breach of the rest is that of the whole
-pub record Leads {X Y : Type 0} (judged : X → List Judgement) (Is : Lists → X → Y → Type 0) (old : Lists) (whole : List X) (now : Lists) (rest : List X) (done : List Y) : Type 0 where
-  pub right : (new : Lists) (ys : List Y) → AreRight now (flat_map judged rest) new → AreEach (Is new) rest ys → AreRight old (flat_map judged whole) new × AreEach (Is new) whole (done ++ ys)
-  pub breach : (breach : ShapeBreach) → first_breach now (flat_map judged rest) ≡ Some breach → first_breach old (flat_map judged whole) ≡ Some breach
+-- nothing is wrong with elements, each of which gives one of these
+abbrev pub AreRead : {X Y : Type 0} → (X → List Judgement) → (Lists → X → Y → Type 0) → Lists → List X → Lists → List Y → Type 0
+AreRead judged Is old xs new ys = AreRight old (flat_map judged xs) new × AreEach (Is new) xs ys
+
+-- elements are read one by one: what is read of the rest makes, with what was read, the whole; and the first breach of the rest is that
+-- of the whole
+pub record Leads {X Y : Type 0}
+    (judged : X → List Judgement) (Is : Lists → X → Y → Type 0) (old : Lists) (whole : List X) (now : Lists) (rest : List X)
+    (done : List Y) : Type 0 where
+  pub right :
+      (new : Lists) (ys : List Y) → AreRight now (flat_map judged rest) new → AreEach (Is new) rest ys
+      → AreRead judged Is old whole new (done ++ ys)
+  pub breach :
+      (breach : ShapeBreach) → first_breach now (flat_map judged rest) ≡ Some breach
+      → first_breach old (flat_map judged whole) ≡ Some breach

@@ -1,10 +1,6 @@
 -- Forms as they are read, which lend their items.
-use Rattle.std.specs.Prelude.{◌≡◌, ℕ, List, ◌++◌, map, Option, Some, None}
-use Rattle.std.specs.List.{flat_map}
-use Rattle.std.specs.Borrow.{Bor}
-use Rattle.mast_tree.specs.declared.item.Item.{Item}
-use Rattle.mast_expressions.specs.Pages.{Page}
-use Rattle.mast_onto.specs.Rights.{PartForm, thing, left, filled, complement, wrong, both_forms, forms_within}
+use Rattle.std.specs.Prelude.{◌≡◌, List, ◌++◌, map}
+use Rattle.mast_onto.specs.Rights.{PartForm, thing, left, filled, complement, wrong}
 use Rattle.mast_onto.specs.Nodes as node
 use Rattle.mast_onto.specs.declared.node.AxiomForm.{AxiomForm as LentAxiom}
 use Rattle.mast_onto.specs.declared.node.AxiomForm.TheVariants as lent_axiom
@@ -31,16 +27,3 @@ shown_axiom (lent_axiom.Wrong kind line) = node.wrong kind line
 -- a list of forms with more behind it
 abbrev pub Extends : List LentPart → List PartForm → List LentPart → Type 0
 Extends old more new = map shown_part new ≡ map shown_part old ++ more
-
--- the parts of an intersection in whose right sides at most so many stand in one another
-abbrev pub both_within : ℕ → Page → ℕ → List Item → List PartForm
-both_within depth page at items = both_forms (forms_within depth page) at items
-
--- the parts of right sides in which at most so many stand in one another
-abbrev pub each_within : ℕ → Page → List Item → List PartForm
-each_within depth page items = flat_map (forms_within depth page) items
-
--- an intersection, with the items that it lends
-abbrev pub shown_intersection : Option (ℕ × Bor (List Item)) → Option (ℕ × List Item)
-shown_intersection None = None
-shown_intersection (Some p) = Some (p.0, p.1.now)

@@ -34,7 +34,8 @@ Sorts line s old new =
 -- the lists are those of the statements
 abbrev pub IsSorted : List (Lined Statement) → Draft → Type 0
 IsSorted statements draft =
-    (draft.inclusions ≡ numbered 0 (inclusions_in statements)) × (draft.negatives ≡ negatives_in statements) × (draft.functional ≡ functional_in statements)
+    (draft.inclusions ≡ numbered 0 (inclusions_in statements))
+    × (draft.negatives ≡ negatives_in statements) × (draft.functional ≡ functional_in statements)
 
 -- the TBox is that of the statements
 pub record IsOf (statements : List (Lined Statement)) (tbox : TBox) : Type 0 where

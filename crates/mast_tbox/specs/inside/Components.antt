@@ -84,7 +84,9 @@ IsAround below above free root same =
     (under : List Prop) × (HasReached below free root under × HasReached above under root same)
 
 -- a root is noted as the chief of the properties around it, which are then no longer free
-pub record SettlesBy (below above : Prop → List Prop) (free : List Prop) (before : Prop → Option Prop) (root : Prop) (left : List Prop) (after : Prop → Option Prop) : Type 0 where
+pub record SettlesBy
+    (below above : Prop → List Prop) (free : List Prop) (before : Prop → Option Prop) (root : Prop) (left : List Prop)
+    (after : Prop → Option Prop) : Type 0 where
   pub same : List Prop
   pub around : IsAround below above free root same
   pub inside : (p : Prop) → Contains same p → after p ≡ Some root

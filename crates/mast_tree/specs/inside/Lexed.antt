@@ -21,7 +21,9 @@ added before (wrong breach) = wrong breach
 -- the token that was found, and what more is read behind it
 abbrev pub on_scanned : Scanned → ℕ → ℕ → List ℕ → (ℕ → ℕ → List ℕ → Lexed) → Lexed
 on_scanned (scanned.Wrong kind n) from line after more = wrong (record { at = from + n; kind = kind })
-on_scanned (scanned.Token kind n) from line after more = added (record { kind = kind; from = from; to = from + n; line = line } ∷ []) (more (from + n) (line + feeds (take n after)) (drop n after))
+on_scanned (scanned.Token kind n) from line after more =
+    added (record { kind = kind; from = from; to = from + n; line = line } ∷ [])
+    (more (from + n) (line + feeds (take n after)) (drop n after))
 
 -- behind the gap
 abbrev pub on_rest : ℕ → ℕ → List ℕ → (ℕ → ℕ → List ℕ → Lexed) → Lexed
@@ -31,7 +33,9 @@ on_rest from line (b ∷ bs) more = on_scanned (longest_token (b ∷ bs)) from l
 -- one turn, of at most `turns`: the gap, and the token behind it
 abbrev pub lexed : ℕ → ℕ → ℕ → List ℕ → Lexed
 lexed zero at line bytes = read []
-lexed (suc turns) at line bytes = let gap = blank_scan 0 false bytes in on_rest (at + length (take gap bytes)) (line + feeds (take gap bytes)) (drop gap bytes) (lexed turns)
+lexed (suc turns) at line bytes =
+    let gap = blank_scan 0 false bytes in
+    on_rest (at + length (take gap bytes)) (line + feeds (take gap bytes)) (drop gap bytes) (lexed turns)
 
 -- what a source reads as, from behind the byte order mark
 abbrev pub reading : List ℕ → Lexed

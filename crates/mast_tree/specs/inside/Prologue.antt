@@ -6,6 +6,7 @@ use Rattle.mast_tree.specs.declared.token.Token.{Token}
 use Rattle.mast_tree.specs.declared.item.Item.{Item, out-Item}
 use Rattle.mast_tree.specs.declared.item.Item.TheOpen.{Item-F}
 use Rattle.mast_tree.specs.declared.shape.ShapeBreach.{ShapeBreach}
+use Rattle.mast_tree.specs.Empty.{is_empty}
 use Rattle.mast_tree.specs.Prefixes.{colon_split, namespace_of, first_in, first_of, shape_at}
 use Rattle.mast_tree.specs.Words.{word_of, line_of}
 
@@ -15,15 +16,10 @@ pub data Part : Type 0 where
   prefix : List ℕ → List ℕ → Part
   wrong : ℕ → Part
 
--- no bytes
-abbrev pub is_nil : List ℕ → Bool
-is_nil [] = true
-is_nil (b ∷ bs) = false
-
 -- a name with one colon, at its end, and an IRI
 abbrev pub bound : Option (List ℕ × List ℕ) → List ℕ → ℕ → Part
 bound None iri line = wrong line
-bound (Some p) iri line = if is_nil p.1 then prefix p.0 iri else wrong line
+bound (Some p) iri line = if is_empty p.1 then prefix p.0 iri else wrong line
 
 -- a binding of an IRI
 abbrev pub binding_in : List ℕ → List Token → Item-F Item → Part
@@ -44,15 +40,20 @@ part_in source tokens word (Item-F.Node t items) =
 part_in source tokens word layer = wrong (line_of tokens (first_in layer))
 
 -- what is told behind the prefixes of a table, where an item is this part of a prologue
-abbrev pub on_part : Part → ℕ → List (List ℕ × List ℕ) → (List (List ℕ × List ℕ) → Result (List (List ℕ × List ℕ)) ShapeBreach) → Result (List (List ℕ × List ℕ)) ShapeBreach
+abbrev pub on_part :
+    Part → ℕ → List (List ℕ × List ℕ) → (List (List ℕ × List ℕ) → Result (List (List ℕ × List ℕ)) ShapeBreach)
+    → Result (List (List ℕ × List ℕ)) ShapeBreach
 on_part main line table more = Ok table
 on_part (wrong at) line table more = Err (shape_at at)
-on_part (prefix name iri) line table more = if is_some (namespace_of name table) then Err (shape_at line) else more (table ++ (name, iri) ∷ [])
+on_part (prefix name iri) line table more =
+    if is_some (namespace_of name table) then Err (shape_at line) else more (table ++ (name, iri) ∷ [])
 
 -- the prefixes up to the main node, after those of a table, or the first breach
 abbrev pub prologue_of : List ℕ → List Token → List ℕ → List (List ℕ × List ℕ) → List Item → Result (List (List ℕ × List ℕ)) ShapeBreach
 prologue_of source tokens word table [] = Err (shape_at 1)
-prologue_of source tokens word table (item ∷ items) = on_part (part_in source tokens word (out-Item item)) (line_of tokens (first_of item)) table (λ more. prologue_of source tokens word more items)
+prologue_of source tokens word table (item ∷ items) =
+    on_part (part_in source tokens word (out-Item item)) (line_of tokens (first_of item)) table
+    (λ more. prologue_of source tokens word more items)
 
 -- a new prefix is put at the end, and one that is there stays as it is
 abbrev pub IsAdded : Bool → List ℕ → List ℕ → List (List ℕ × List ℕ) → List (List ℕ × List ℕ) → Type 0

@@ -1,5 +1,5 @@
 -- The lists are numbered, and are no longer than the statements.
-use Rattle.std.proofs.Common.{subst, sym, ap, ◌∙◌}
+use Rattle.std.proofs.Common.{subst, sym}
 use Rattle.mast_tbox.specs.Numbers.{IsNumbered}
 use Rattle.mast_onto.specs.Numbered.{inclusions_in}
 use Rattle.mast_onto.specs.inside.Sorting.{IsSorted}

@@ -10,4 +10,4 @@ returns-in-Ok c = λ dates are.
 
 pub returns-in-Err : goal.returns-in-Err
 returns-in-Err c = λ dates are.
-    rw c.shape.ensures (ap (λ d. date_in d c.args.line) (date_none dates c.args.text.now are (λ t. c.in-Err.ensures.refuses (t.0, c.as_bytes.ensures.value ∙ t.1))))
+    rw c.wrong.ensures (ap (λ d. date_in d c.args.line) (date_none dates c.args.text.now are (λ t. c.in-Err.ensures.refuses (t.0, c.as_bytes.ensures.value ∙ t.1))))

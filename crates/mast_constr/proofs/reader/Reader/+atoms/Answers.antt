@@ -1,7 +1,7 @@
 -- The first atom was put, and then the rest was read.
 use Rattle.std.proofs.Common.{sym, subst, suc}
 use Rattle.std.specs.Prelude.{Err}
-use Rattle.mast_expressions.specs.Pages.{says}
+use Rattle.mast_tree.specs.Pages.{says}
 use Rattle.mast_expressions.proofs.ReadLemmas.{stops_first}
 use Rattle.mast_constr.specs.Denials.{atom_judged}
 use Rattle.mast_constr.specs.inside.Atoms.{atoms_from, with_atom}

@@ -3,7 +3,7 @@ use Rattle.std.proofs.Common.{rules, ◌≡◌, sym, true, false}
 use Rattle.std.specs.Prelude.{codes}
 use Rattle.std.specs.Str.{bytes_eq}
 use Rattle.mast_tree.specs.Said.{node}
-use Rattle.mast_expressions.specs.Pages.{says}
+use Rattle.mast_tree.specs.Pages.{says}
 use Rattle.mast_constr.specs.inside.Rules.{page_in}
 use Rattle.mast_constr.proofs.AtomLemmas.{is_class, is_role, is_attr, atom_read}
 use Rattle.mast_constr.proofs.reader.Reader.atom.Goals as goal

@@ -1,7 +1,7 @@
 -- A constant was read and numbered.
 use Rattle.mast_constr.specs.Denials.{constant_judged}
 use Rattle.mast_tree.specs.Constants.{constant_of}
-use Rattle.mast_expressions.specs.Pages.{says}
+use Rattle.mast_tree.specs.Pages.{says}
 use Rattle.mast_expressions.proofs.ReadLemmas.{handed}
 use Rattle.mast_constr.specs.inside.Rules.{page_in}
 use Rattle.mast_constr.proofs.AtomLemmas.{constant_stops, constant_read}

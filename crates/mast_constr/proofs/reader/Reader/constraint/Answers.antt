@@ -4,7 +4,7 @@ use Rattle.std.specs.Prelude.{codes}
 use Rattle.std.specs.Str.{bytes_eq}
 use Rattle.mast_tree.specs.Judgements.{Judges}
 use Rattle.mast_tree.specs.Said.{node}
-use Rattle.mast_expressions.specs.Pages.{says}
+use Rattle.mast_tree.specs.Pages.{says}
 use Rattle.mast_constr.specs.Denials.{deny_judged}
 use Rattle.mast_constr.specs.Items.{IsConstraint}
 use Rattle.mast_constr.specs.inside.Rules.{page_in}

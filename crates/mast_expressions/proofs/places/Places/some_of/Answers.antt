@@ -4,7 +4,8 @@ use Rattle.mast_tree.proofs.JudgementLemmas.{right_parts}
 use Rattle.mast_tree.specs.declared.shape.ShapeKind.TheVariants.{NotDlLite}
 use Rattle.mast_expressions.specs.Given.{IsRole}
 use Rattle.mast_expressions.specs.Judged.{role_judged, is_iri_judged, some_parts}
-use Rattle.mast_expressions.specs.Pages.{Expands, owl_thing}
+use Rattle.mast_tree.specs.Pages.{Expands}
+use Rattle.mast_expressions.specs.Iris.{owl_thing}
 use Rattle.mast_expressions.specs.Reads.{page}
 use Rattle.mast_expressions.proofs.ReadLemmas.{handed, stops_first, stops_second}
 use Rattle.mast_expressions.proofs.places.Places.some_of.Goals as goal

@@ -4,7 +4,8 @@ use Rattle.mast_tree.proofs.JudgementLemmas.{right_parts}
 use Rattle.mast_tree.specs.declared.shape.ShapeKind.TheVariants.{NotDlLite, Datatype}
 use Rattle.mast_expressions.specs.Given.{IsAttr}
 use Rattle.mast_expressions.specs.Judged.{attr_judged, is_iri_judged, subjects_parts}
-use Rattle.mast_expressions.specs.Pages.{Expands, rdfs_literal}
+use Rattle.mast_tree.specs.Pages.{Expands}
+use Rattle.mast_expressions.specs.Iris.{rdfs_literal}
 use Rattle.mast_expressions.specs.Reads.{page}
 use Rattle.mast_expressions.proofs.ReadLemmas.{handed, stops_first, stops_second}
 use Rattle.mast_expressions.proofs.places.Places.subjects_of.Goals as goal

@@ -2,7 +2,7 @@ use Rattle.std.proofs.Common.{refl, subst, ◌+◌, drop}
 use Rattle.mast_terms.proofs.PlaceLemmas.{drop-next}
 use Rattle.mast_tree.specs.Said.{said}
 use Rattle.mast_mapping.specs.Documents.{entry_of}
-use Rattle.mast_mapping.specs.inside.Progress.{page_of, IsFar}
+use Rattle.mast_mapping.specs.inside.Progress.{page, IsFar}
 use Rattle.mast_mapping.specs.inside.Readers.{doc_of}
 use Rattle.mast_mapping.proofs.ProgressLemmas.{far_next, far_end, far_wrong}
 use Rattle.mast_mapping.proofs.SliceLemmas.{nothing_left}
@@ -11,7 +11,7 @@ use Rattle.mast_mapping.proofs.doc_reader.DocReader.items.Goals as goal
 
 pub returns-in_err-read : goal.returns-in_err-read
 returns-in_err-read c = λ texts are.
-    let p = page_of c.args.self.now in
+    let p = page c.args.self.now in
     let l = c.loop-item in
     let items = c.args.items.now in
     let rest = drop (l.item-index + 1) items in
@@ -23,7 +23,7 @@ returns-in_err-read c = λ texts are.
 
 pub loop-item-preserved : goal.loop-item-preserved
 loop-item-preserved c = λ texts are.
-    let p = page_of c.args.self.now in
+    let p = page c.args.self.now in
     let l = c.loop-item in
     let items = c.args.items.now in
     let rest = drop (l.item-index + 1) items in
@@ -33,7 +33,7 @@ loop-item-preserved c = λ texts are.
 
 pub returns : goal.returns
 returns c = λ texts are.
-    let p = page_of c.args.self.now in
+    let p = page c.args.self.now in
     let l = c.loop-item in
     let items = c.args.items.now in
     far_end texts p c.args.vocab items l.read

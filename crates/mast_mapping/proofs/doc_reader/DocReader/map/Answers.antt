@@ -2,7 +2,7 @@ use Rattle.std.proofs.Common.{sym, ap, ◌∙◌, subst}
 use Rattle.std.specs.Prelude.{Ok}
 use Rattle.mast_tree.specs.Judgements.{first_breach, AreRight}
 use Rattle.mast_mapping.specs.Heads.{heads_judged, AreHeads}
-use Rattle.mast_mapping.specs.inside.Progress.{page_of, ReadsMap}
+use Rattle.mast_mapping.specs.inside.Progress.{page, ReadsMap}
 use Rattle.mast_mapping.proofs.MapLemmas.{source_breaks, scope_by, heads_break, map_right}
 use Rattle.mast_mapping.proofs.SliceLemmas.{first_is}
 use Rattle.mast_mapping.proofs.StopLemmas.{stopped}
@@ -10,7 +10,7 @@ use Rattle.mast_mapping.proofs.doc_reader.DocReader.map.Goals as goal
 
 pub returns-in_err-query-in-len2-up : goal.returns-in_err-query-in-len2-up
 returns-in_err-query-in-len2-up c = λ texts are.
-    let p = page_of c.args.self.now in
+    let p = page c.args.self.now in
     let source = c.source-item.result in
     let parts = first_is c.args.items.now source c.in-len2-up.len_at_least c.source-item.is in
     subst (λ x. ReadsMap texts p c.args.tables.now c.args.line x c.args.vocab.now c.args.vocab.now c.from_residual.result) (sym parts.2)
@@ -19,7 +19,7 @@ returns-in_err-query-in-len2-up c = λ texts are.
 
 pub returns-in_err-heads-in-len2-up : goal.returns-in_err-heads-in-len2-up
 returns-in_err-heads-in-len2-up c = λ texts are.
-    let p = page_of c.args.self.now in
+    let p = page c.args.self.now in
     let source = c.source-item.result in
     let read = c.in_ok-query-in-len2-up in
     let parts = first_is c.args.items.now source c.in-len2-up.len_at_least c.source-item.is in
@@ -33,7 +33,7 @@ returns-in_err-heads-in-len2-up c = λ texts are.
 
 pub returns-in_ok-heads-in-len2-up : goal.returns-in_ok-heads-in-len2-up
 returns-in_ok-heads-in-len2-up c = λ texts are.
-    let p = page_of c.args.self.now in
+    let p = page c.args.self.now in
     let source = c.source-item.result in
     let read = c.in_ok-query-in-len2-up in
     let parts = first_is c.args.items.now source c.in-len2-up.len_at_least c.source-item.is in

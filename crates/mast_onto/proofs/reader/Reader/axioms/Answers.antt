@@ -1,10 +1,10 @@
 -- Each axiom that is read leads on, and what stops the reading of one is the first breach.
-use Rattle.std.proofs.Common.{◌≡◌, ◌+◌, drop, refl, subst}
+use Rattle.std.proofs.Common.{◌+◌, drop, refl, subst}
 use Rattle.std.proofs.lemmas.List.{drop_all}
 use Rattle.mast_terms.proofs.PlaceLemmas.{drop-next}
 use Rattle.mast_expressions.specs.Reads.{page}
 use Rattle.mast_onto.specs.inside.Stating.{LeadsOn}
-use Rattle.mast_onto.proofs.StatingLemmas.{on_start, on_next, on_stop, on_end}
+use Rattle.mast_onto.proofs.StatingLemmas.{on_next, on_stop, on_end}
 use Rattle.mast_onto.proofs.reader.Reader.axioms.Goals as goal
 
 pub loop-item-preserved : goal.loop-item-preserved

@@ -2,7 +2,7 @@
 use Rattle.std.specs.Prelude.{⊤}
 use Rattle.mast_tree.specs.Judged.{after_judged}
 use Rattle.mast_expressions.specs.Reads.{page}
-use Rattle.mast_onto.specs.Ontologies.{front_judged, behind_front, axioms}
+use Rattle.mast_onto.specs.Ontologies.{front_judged, axioms}
 use Rattle.mast_onto.proofs.InsideLemmas.{first_iri, second_iri, both_iris, same_axioms, axiom_wrong, inside_right, inside_states, judges_breach, axioms_breach, inside_stop}
 use Rattle.mast_onto.proofs.reader.Reader.inside.Goals as goal
 

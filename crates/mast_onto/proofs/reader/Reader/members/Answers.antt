@@ -1,5 +1,5 @@
 -- Each item that is read leads on, and what stops the reading of one stops that of all.
-use Rattle.std.proofs.Common.{◌≡◌, ◌+◌, [], ◌∷◌, ◌++◌, List, drop, refl, subst, sym}
+use Rattle.std.proofs.Common.{◌+◌, List, drop, refl, subst, sym}
 use Rattle.std.specs.List.{flat_map}
 use Rattle.std.proofs.lemmas.List.{drop_all}
 use Rattle.mast_terms.proofs.PlaceLemmas.{drop-next}

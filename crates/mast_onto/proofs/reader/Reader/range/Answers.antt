@@ -7,7 +7,8 @@ use Rattle.mast_expressions.specs.Given.{IsAttr}
 use Rattle.mast_expressions.specs.Judged.{attr_judged}
 use Rattle.mast_expressions.specs.Reads.{page}
 use Rattle.mast_expressions.proofs.ReadLemmas.{handed, stops_first, stops_second}
-use Rattle.mast_onto.specs.Axioms.{breach_judged, type_said, form_judged, IsAxiom}
+use Rattle.mast_tree.specs.Judgements.{breach_judged}
+use Rattle.mast_onto.specs.Axioms.{type_said, form_judged, IsAxiom}
 use Rattle.mast_onto.specs.Nodes.{range}
 use Rattle.mast_onto.specs.declared.statement.Axiom.{Axiom}
 use Rattle.mast_onto.proofs.reader.Reader.range.Goals as goal
