@@ -1,5 +1,5 @@
 -- Anchors: an identification of a specification has a path along one unspecialised property.
-use Rattle.std.proofs.Common.{◌≡◌, ℕ, ◌⊎◌, inl, inr, List, [], ◌∷◌, Option, Some, None, Contains, refl, sym, ap, ◌∙◌, subst}
+use Rattle.std.proofs.Common.{◌≡◌, ◌⊎◌, inl, inr, List, [], ◌∷◌, Option, Some, None, Contains, refl, sym, ap, ◌∙◌, subst}
 use Rattle.mast_cq.specs.Meanings.{Fact}
 use Rattle.mast_cq.specs.Queries.{In}
 use Rattle.mast_tbox.specs.declared.axiom.Inclusion.{Inclusion}

@@ -1,5 +1,5 @@
 -- Worked answers, as theorems: each person works for something (the inclusion Person ⊑ ∃worksFor, number 0), and Ann is a person.
-use Rattle.std.proofs.Common.{◌≡◌, ◌≢◌, ℕ, zero, suc, ◌⊎◌, inl, inr, List, [], ◌∷◌, length, None, Contains, refl, sym, ap, ◌∙◌, subst, arith}
+use Rattle.std.proofs.Common.{◌≡◌, ◌≢◌, ℕ, zero, suc, inl, inr, List, [], ◌∷◌, length, None, Contains, refl, sym, ap, ◌∙◌, subst, arith}
 use Rattle.std.specs.Prelude.{codes}
 use Rattle.std.specs.declared.cmp.Ordering.TheVariants.{Less}
 use Rattle.mast_terms.specs.declared.name.Name.{Name}
@@ -24,7 +24,7 @@ use Rattle.mast_tbox.specs.Restrictions.{Specialises, IsSpecialised}
 use Rattle.mast_tbox.proofs.MemberLemmas.{front, none, first_or}
 use Rattle.mast_canon.specs.declared.origin.Ground.TheVariants as grounds
 use Rattle.mast_canon.specs.CertainAnswers.{Certain, HoldsBy, constant_in}
-use Rattle.mast_canon.specs.Derivations.{adds, IsSource, Holds, source, follows}
+use Rattle.mast_canon.specs.Derivations.{adds, IsSource, source, follows}
 use Rattle.mast_canon.specs.Elements.{Element, Named, Successor, map_fact}
 use Rattle.mast_canon.specs.KeptTerms.{Needs, IsKept, IsOwn, IsFill}
 use Rattle.mast_canon.specs.Memberships.{pair_fact}

@@ -1,5 +1,5 @@
 -- Conflicts: no rows are none where each mapping reads a table, and each proper part of one has a model.
-use Rattle.std.proofs.Common.{◌≡◌, ℕ, ◌≤◌, inl, List, [], ◌∷◌, length, refl, subst, arith}
+use Rattle.std.proofs.Common.{ℕ, ◌≤◌, inl, List, [], ◌∷◌, length, refl, subst, arith}
 use Rattle.std.proofs.Math.Logic.{∥∥₁_elim}
 use Rattle.std.specs.List.{AllByRecursion, AllZip}
 use Rattle.mast_terms.specs.declared.name.Name.{Name}
@@ -29,7 +29,7 @@ use Rattle.mast_canon.specs.ConflictLaws.{EachReads, HaveNoModel, IsAmong, IsCon
 use Rattle.mast_canon.specs.Conflicts.{Without}
 use Rattle.mast_canon.specs.Derivations.{Holds, source, follows}
 use Rattle.mast_canon.specs.Elements.{Element}
-use Rattle.mast_canon.specs.Facts.{IsFactOf, chosen_rows}
+use Rattle.mast_canon.specs.Facts.{chosen_rows}
 use Rattle.mast_canon.specs.NoModels.{BreaksNegative, BreaksRange, wrong, two, BreaksConstraint, Breaks, negative, range, functional, constraint}
 use Rattle.mast_canon.specs.SpecFacts.{FactsOf}
 use Rattle.mast_canon.specs.Theories.{Theory, stated, theory_of}

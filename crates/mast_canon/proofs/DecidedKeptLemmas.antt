@@ -13,7 +13,7 @@ use Rattle.mast_canon.specs.CertainAnswers.{HoldsBy}
 use Rattle.mast_canon.specs.Elements.{Element, Named}
 use Rattle.mast_canon.specs.Interpretations.{DecidedInterpretation, IsTrue, decided}
 use Rattle.mast_canon.specs.KeptTerms.{IsKept}
-use Rattle.mast_canon.specs.KeptWorlds.{OfElements, IsKeptWorld}
+use Rattle.mast_canon.specs.KeptWorlds.{OfElements}
 use Rattle.mast_canon.specs.Theories.{Theory, stated}
 use Rattle.mast_canon.specs.WorldLaws.{IsListed, HasKeptWorld}
 use Rattle.mast_canon.proofs.DecisionLemmas.{in_decided, pair_decided, kept_decided}

@@ -1,10 +1,11 @@
--- Over a list of facts it is decided what holds, which elements are kept, and who fills.
-use Rattle.std.proofs.Common.{◌≡◌, ℕ, ◌<◌, ◌⊎◌, inl, inr, List, [], ◌∷◌, Option, Some, None, Contains, refl, sym, ap, ◌∙◌, subst, arith}
-use Rattle.std.proofs.lemmas.Bool.{cases_eq, cases_lt}
+-- Over a list of facts the tests of Decisions tell what holds, which elements are kept, and who fills. So all this is decided.
+use Rattle.std.proofs.Common.{◌≡◌, ℕ, ◌<◌, ◌⊎◌, inl, inr, Bool, ◌&&◌, nat_lt, List, Option, Some, None, Contains, refl, sym, ap, ◌∙◌, subst}
+use Rattle.std.specs.Cmp.{Equal-is}
+use Rattle.std.specs.List.{list_any}
 use Rattle.mast_terms.specs.declared.name.Name.{Name}
 use Rattle.mast_terms.specs.declared.term.Term.{Term}
-use Rattle.mast_terms.proofs.OrderLemmas.{term_equality_test}
-use Rattle.mast_terms.specs.contracts.term.TermPartialEq.TheImpl as term_eq
+use Rattle.mast_terms.specs.Orders.{term_order}
+use Rattle.mast_terms.proofs.OrderLemmas.{term_orders}
 use Rattle.mast_cq.specs.Meanings.{Fact, InClass, InRole, InAttr}
 use Rattle.mast_cq.specs.Queries.{In}
 use Rattle.mast_tbox.specs.declared.axiom.Inclusion.{Inclusion}
@@ -13,57 +14,38 @@ use Rattle.mast_tbox.specs.declared.expression.Basic.{Basic}
 use Rattle.mast_tbox.specs.declared.expression.Basic.TheVariants.{Class as BClass, Some as BSome, Subjects}
 use Rattle.mast_tbox.specs.declared.expression.Prop.{Prop}
 use Rattle.mast_tbox.specs.declared.expression.Prop.TheVariants.{Role as PRole, Attr as PAttr}
-use Rattle.mast_tbox.specs.declared.expression.RoleExpr.{RoleExpr}
 use Rattle.mast_tbox.specs.declared.expression.RoleExpr.TheVariants.{Direct, Inverse}
 use Rattle.mast_tbox.specs.Expressions.{inverse, inverse_role}
 use Rattle.mast_tbox.specs.Inclusions.{Adds, IsDirectlyBelow}
 use Rattle.mast_tbox.specs.Laws.{Decided}
-use Rattle.mast_tbox.specs.Lists.{Reaches, itself}
+use Rattle.mast_tbox.specs.Lists.{Reaches}
 use Rattle.mast_tbox.specs.Properties.{IsBelow, AreEquivalent}
 use Rattle.mast_tbox.specs.Restrictions.{IsSpecialised}
-use Rattle.mast_tbox.proofs.OrderLemmas.{same_prop_decided, below_decided, equivalent_decided, specialised_decided, concept_reach_decided}
-use Rattle.mast_tbox.proofs.ThroughLemmas.{dec_or, dec_and, dec_as, dec_not, dec_some}
-use Rattle.mast_canon.specs.Derivations.{IsSource, Holds}
+use Rattle.mast_canon.specs.Decisions.{same_term, same_element, is_role, adds_with, shows_in, end_under, makes_in, is_in, needs_with, gives_pair, is_filler, has_named_filler, has_parent_filler, is_free, gets, is_kept}
+use Rattle.mast_canon.specs.Derivations.{Holds}
 use Rattle.mast_canon.specs.Elements.{Element, Named, Successor, IsNamed, map_fact}
+use Rattle.mast_canon.specs.FactLists.{terms_of}
 use Rattle.mast_canon.specs.KeptTerms.{Needs, IsParent, IsFree, Gets, IsKept}
 use Rattle.mast_canon.specs.Memberships.{pair_fact, shows, IsIn}
+use Rattle.mast_canon.specs.Paths.{are_equivalent}
 use Rattle.mast_canon.specs.WorldLaws.{IsListed}
 use Rattle.mast_canon.proofs.FoundLemmas.{filler_listed}
-use Rattle.mast_canon.proofs.KeptRangeLemmas.{decide}
-use Rattle.mast_canon.proofs.ListedLemmas.{terms_of, terms_of_listed}
+use Rattle.mast_canon.proofs.ListedLemmas.{terms_of_listed}
 use Rattle.mast_canon.proofs.OriginLemmas.{PairOrigin, given, made, back, pair_origin, origin_pair, Starts, given_in, at_end, in_end, InOrigin, origin_in, is_in_origin}
+use Rattle.mast_canon.proofs.PathLemmas.{tells_below, tells_under, tells_equivalent, tells_specialised}
+use Rattle.mast_canon.proofs.TestLemmas.{Tells, tells_among, tells_and, tells_as, tells_decided, tells_less, tells_no, tells_not, tells_number, tells_or, tells_some, tells_unless, tells_yes}
 use Rattle.mast_canon.proofs.UnspecialisedLemmas.{IsRole}
 
--- what follows from a decided statement is decided
-pub dec_then : {A B : Type 0} → Decided A → Decided B → Decided (A → B)
-dec_then (inr n) d = inl (λ a. absurd (n a))
-dec_then (inl a) (inl b) = inl (λ x. b)
-dec_then (inl a) (inr n) = inr (λ f. n (f a))
-
--- whether what is decided of each is so of some element of a list
-pub dec_among : {X : Type 0} {Q : X → Type 0} → ((x : X) → Decided (Q x)) → (xs : List X) → Decided ((x : X) × (In x xs × Q x))
-dec_among dec [] = inr (λ w. w.1.0)
-dec_among {X} {Q} dec (x ∷ xs) = go (dec x) (dec_among dec xs)
-  where
-    go : Decided (Q x) → Decided ((y : X) × (In y xs × Q y)) → Decided ((y : X) × (In y (x ∷ xs) × Q y))
-    go (inl p) d = inl (x, (inl refl, p))
-    go (inr n) (inl w) = inl (w.0, (inr w.1.0, w.1.1))
-    go (inr n) (inr m) = inr (λ w. elim w.1.0 [ inl e ↦ n (subst Q e w.1.1) | inr i ↦ m (w.0, (i, w.1.1)) ])
-
--- whether two numbers are the same is decided
-pub same_number : (k j : ℕ) → Decided (k ≡ j)
-same_number k j = cases_eq k j
-
-less_number : (k j : ℕ) → Decided (k < j)
-less_number k j = elim (cases_lt k j) [ inl l ↦ inl l | inr g ↦ inr (λ l. omega (arith, l, g)) ]
-
-pub same_term : (t u : Term) → Decided (t ≡ u)
-same_term t u = decide term_eq.ghosts.eq term_equality_test t u
+-- two terms are one
+tells_term : (t u : Term) → Tells (same_term t u) (t ≡ u)
+tells_term t u =
+    let e = Equal-is (term_order t u) in let o = term_orders.ties t u in record { yes = λ h. o.0 (e.0 h); holds = λ h. e.1 (o.1 h) }
 
 successor_is : (t u : Element) (k j : ℕ) → (t ≡ u) × (k ≡ j) → Successor t k ≡ Successor u j
 successor_is t u k j e = ap (λ z. Successor z k) e.0 ∙ ap (Successor u) e.1
 
-successor_parts : (t u : Element) (k j : ℕ) → Successor t k ≡ Successor u j → (t ≡ u) × (k ≡ j)
+-- successors that are one have one parent and one number
+pub successor_parts : (t u : Element) (k j : ℕ) → Successor t k ≡ Successor u j → (t ≡ u) × (k ≡ j)
 successor_parts t u k j e = let i : t ≡ u = cc in let l : k ≡ j = cc in (i, l)
 
 named_apart : (t : Term) (u : Element) (k : ℕ) → Named t ≡ Successor u k → ⊥
@@ -75,35 +57,37 @@ apart_named t u k e = cc
 named_is : (t u : Term) → ◌≡◌ {A = Element} (Named t) (Named u) → t ≡ u
 named_is t u e = cc
 
--- whether two elements are one
-pub same_element : (t u : Element) → Decided (t ≡ u)
-same_element (Named t) (Named u) = dec_as (ap Named, named_is t u) (same_term t u)
-same_element (Named t) (Successor u k) = inr (named_apart t u k)
-same_element (Successor u k) (Named t) = inr (apart_named t u k)
-same_element (Successor t k) (Successor u j) = dec_as (successor_is t u k j, successor_parts t u k j) (dec_and (same_element t u) (same_number k j))
+-- two elements are one
+tells_element : (t u : Element) → Tells (same_element t u) (t ≡ u)
+tells_element (Named t) (Named u) = tells_as (ap Named, named_is t u) (tells_term t u)
+tells_element (Named t) (Successor u k) = tells_as ((λ h. absurd h), named_apart t u k) tells_no
+tells_element (Successor u k) (Named t) = tells_as ((λ h. absurd h), apart_named t u k) tells_no
+tells_element (Successor t k) (Successor u j) = tells_as (successor_is t u k j, successor_parts t u k j) (tells_and (tells_element t u) (tells_number k j))
 
--- whether what is decided of the left side, the property and the number of an existential inclusion is so of some stated one
-module _ {Q : Basic → Prop → ℕ → Type 0} (dec : (b : Basic) (p : Prop) (k : ℕ) → Decided (Q b p k)) (tbox : List Inclusion) where
-  abbrev By : Inclusion → Type 0
-  By (IClass b a) = ⊥
-  By (Exists b r end k) = Q b (PRole r) k
-  By (HasValue b v k) = Q b (PAttr v) k
-  By (IRole r s) = ⊥
-  By (IAttr u v) = ⊥
-  By (Range u kind) = ⊥
+-- what is said of the left side, the property and the number is so of the existential inclusion
+abbrev pub AddsWith : (Basic → Prop → ℕ → Type 0) → Inclusion → Type 0
+AddsWith Q (IClass b a) = ⊥
+AddsWith Q (Exists b r end k) = Q b (PRole r) k
+AddsWith Q (HasValue b v k) = Q b (PAttr v) k
+AddsWith Q (IRole r s) = ⊥
+AddsWith Q (IAttr u v) = ⊥
+AddsWith Q (Range u kind) = ⊥
 
-  by_decided : (i : Inclusion) → Decided (By i)
-  by_decided (IClass b a) = inr (λ h. h)
-  by_decided (Exists b r end k) = dec b (PRole r) k
-  by_decided (HasValue b v k) = dec b (PAttr v) k
-  by_decided (IRole r s) = inr (λ h. h)
-  by_decided (IAttr u v) = inr (λ h. h)
-  by_decided (Range u kind) = inr (λ h. h)
+-- and so of some stated one
+abbrev pub SomeAdding : (Basic → Prop → ℕ → Type 0) → List Inclusion → Type 0
+SomeAdding Q tbox = (b : Basic) × ((p : Prop) × ((k : ℕ) × (Adds tbox b p k × Q b p k)))
 
-  abbrev pub SomeAdding : Type 0
-  SomeAdding = (b : Basic) × ((p : Prop) × ((k : ℕ) × (Adds tbox b p k × Q b p k)))
+tells_adds : {test : Basic → Prop → ℕ → Bool} {Q : Basic → Prop → ℕ → Type 0} → ((b : Basic) (p : Prop) (k : ℕ) → Tells (test b p k) (Q b p k)) → (i : Inclusion) → Tells (adds_with test i) (AddsWith Q i)
+tells_adds t (IClass b a) = tells_no
+tells_adds t (Exists b r end k) = t b (PRole r) k
+tells_adds t (HasValue b v k) = t b (PAttr v) k
+tells_adds t (IRole r s) = tells_no
+tells_adds t (IAttr u v) = tells_no
+tells_adds t (Range u kind) = tells_no
 
-  to_adding : (i : Inclusion) → Contains tbox i → By i → SomeAdding
+module _ (Q : Basic → Prop → ℕ → Type 0) (tbox : List Inclusion) where
+  -- the stated one, as an existential inclusion
+  pub to_adding : (i : Inclusion) → Contains tbox i → AddsWith Q i → SomeAdding Q tbox
   to_adding (IClass b a) c h = absurd h
   to_adding (Exists b r end k) c h = (b, (PRole r, (k, ((end, c), h))))
   to_adding (HasValue b v k) c h = (b, (PAttr v, (k, (c, h))))
@@ -111,16 +95,17 @@ module _ {Q : Basic → Prop → ℕ → Type 0} (dec : (b : Basic) (p : Prop) (
   to_adding (IAttr u v) c h = absurd h
   to_adding (Range u kind) c h = absurd h
 
-  from_adding : (b : Basic) (p : Prop) (k : ℕ) → Adds tbox b p k → Q b p k → (i : Inclusion) × (Contains tbox i × By i)
+  -- and back
+  pub from_adding : (b : Basic) (p : Prop) (k : ℕ) → Adds tbox b p k → Q b p k → (i : Inclusion) × (Contains tbox i × AddsWith Q i)
   from_adding b (PRole r) k (end, c) h = (Exists b r end k, (c, h))
   from_adding b (PAttr v) k c h = (HasValue b v k, (c, h))
 
-  pub some_adding : Decided SomeAdding
-  some_adding = dec_as (λ w. to_adding w.0 w.1.0 w.1.1, λ w. from_adding w.0 w.1.0 w.1.1.0 w.1.1.1.0 w.1.1.1.1) (dec_some by_decided tbox)
+tells_adding : {test : Basic → Prop → ℕ → Bool} {Q : Basic → Prop → ℕ → Type 0} → ((b : Basic) (p : Prop) (k : ℕ) → Tells (test b p k) (Q b p k)) → (tbox : List Inclusion) → Tells (list_any (adds_with test) tbox) (SomeAdding Q tbox)
+tells_adding {test} {Q} t tbox = tells_as (λ w. to_adding Q tbox w.0 w.1.0 w.1.1, λ w. from_adding Q tbox w.0 w.1.0 w.1.1.0 w.1.1.1.0 w.1.1.1.1) (tells_some (tells_adds t) tbox)
 
-is_role : (p : Prop) → Decided (IsRole p)
-is_role (PRole r) = inl tt
-is_role (PAttr v) = inr (λ h. h)
+tells_role : (p : Prop) → Tells (is_role p) (IsRole p)
+tells_role (PRole r) = tells_yes
+tells_role (PAttr v) = tells_no
 
 -- a given fact is between named terms
 source_named : (c : Basic) (t u : Element) (f : Fact Term) → shows c t u ≡ map_fact Named f → IsNamed t
@@ -147,19 +132,16 @@ module _ (tbox : List Inclusion) (F : Fact Term → Type 0) (l : IsListed F) whe
   abbrev Reach : Basic → Basic → Type 0
   Reach c b = Reaches (IsDirectlyBelow tbox) c b
 
-  reach_decided : (c b : Basic) → Decided (Reach c b)
-  reach_decided c b = concept_reach_decided tbox c b
-
   -- the fact shows the named term in a basic concept from which b is reached
   abbrev ShowsIn : Basic → Term → Fact Term → Type 0
   ShowsIn b x (InClass a y) = (x ≡ y) × Reach (BClass a) b
   ShowsIn b x (InRole r y z) = ((x ≡ y) × Reach (BSome (Direct r)) b) ⊎ ((x ≡ z) × Reach (BSome (Inverse r)) b)
   ShowsIn b x (InAttr v y z) = (x ≡ y) × Reach (Subjects v) b
 
-  shows_in : (b : Basic) (x : Term) (f : Fact Term) → Decided (ShowsIn b x f)
-  shows_in b x (InClass a y) = dec_and (same_term x y) (reach_decided (BClass a) b)
-  shows_in b x (InRole r y z) = dec_or (dec_and (same_term x y) (reach_decided (BSome (Direct r)) b)) (dec_and (same_term x z) (reach_decided (BSome (Inverse r)) b))
-  shows_in b x (InAttr v y z) = dec_and (same_term x y) (reach_decided (Subjects v) b)
+  tells_shows : (b : Basic) (x : Term) (f : Fact Term) → Tells (shows_in tbox facts b x f) (ShowsIn b x f)
+  tells_shows b x (InClass a y) = tells_and (tells_term x y) (tells_under tbox (BClass a) b)
+  tells_shows b x (InRole r y z) = tells_or (tells_and (tells_term x y) (tells_under tbox (BSome (Direct r)) b)) (tells_and (tells_term x z) (tells_under tbox (BSome (Inverse r)) b))
+  tells_shows b x (InAttr v y z) = tells_and (tells_term x y) (tells_under tbox (Subjects v) b)
 
   shown_origin : (b c : Basic) (x y : Term) (u : Element) (f : Fact Term) → In f facts → shows c (Named y) u ≡ map_fact Named f → x ≡ y → Reach c b → InOrigin tbox F b (Named x)
   shown_origin b c x y u f i e n r = record { start = c; starts = given_in u (record { fact = f; given = (l.are f).1 i; is = ap (λ z. shows c (Named z) u) n ∙ e }); leads = r }
@@ -195,8 +177,8 @@ module _ (tbox : List Inclusion) (F : Fact Term → Type 0) (l : IsListed F) whe
       at : InOrigin tbox F b (Named x) → (f : Fact Term) × (In f facts × ShowsIn b x f)
       at o = go o.start o.starts o.leads
 
-  in_named : (b : Basic) (x : Term) → Decided (IsIn P b (Named x))
-  in_named b x = dec_as (λ w. origin_in tbox F b (Named x) (shows_origin b x w.0 w.1.0 w.1.1), named_shows b x) (dec_among (shows_in b x) facts)
+  tells_named : (b : Basic) (x : Term) → Tells (is_in tbox facts (Named x) b) (IsIn P b (Named x))
+  tells_named b x = tells_as (λ w. origin_in tbox F b (Named x) (shows_origin b x w.0 w.1.0 w.1.1), named_shows b x) (tells_among (tells_shows b x) facts)
 
   -- the successor of s by the number k is in b by the inclusion
   abbrev EndReaches : Option Name → Basic → Type 0
@@ -211,17 +193,17 @@ module _ (tbox : List Inclusion) (F : Fact Term → Type 0) (l : IsListed F) whe
   MakesIn b s k (IAttr u v) = ⊥
   MakesIn b s k (Range u kind) = ⊥
 
-  end_reaches : (end : Option Name) (b : Basic) → Decided (EndReaches end b)
-  end_reaches None b = inr (λ h. h)
-  end_reaches (Some a) b = reach_decided (BClass a) b
+  tells_end : (end : Option Name) (b : Basic) → Tells (end_under tbox facts end b) (EndReaches end b)
+  tells_end None b = tells_no
+  tells_end (Some a) b = tells_under tbox (BClass a) b
 
-  makes_in : (b : Basic) (s : Element) (k : ℕ) → ((c : Basic) → Decided (IsIn P c s)) → (i : Inclusion) → Decided (MakesIn b s k i)
-  makes_in b s k parent (IClass c a) = inr (λ h. h)
-  makes_in b s k parent (Exists c r end j) = dec_and (same_number j k) (dec_and (parent c) (dec_or (reach_decided (BSome (inverse_role r)) b) (end_reaches end b)))
-  makes_in b s k parent (HasValue c v j) = inr (λ h. h)
-  makes_in b s k parent (IRole r t) = inr (λ h. h)
-  makes_in b s k parent (IAttr u v) = inr (λ h. h)
-  makes_in b s k parent (Range u kind) = inr (λ h. h)
+  tells_makes : {parent : Basic → Bool} (b : Basic) (s : Element) (k : ℕ) → ((c : Basic) → Tells (parent c) (IsIn P c s)) → (i : Inclusion) → Tells (makes_in tbox facts b k parent i) (MakesIn b s k i)
+  tells_makes b s k t (IClass c a) = tells_no
+  tells_makes b s k t (Exists c r end j) = tells_and (tells_number j k) (tells_and (t c) (tells_or (tells_under tbox (BSome (inverse_role r)) b) (tells_end end b)))
+  tells_makes b s k t (HasValue c v j) = tells_no
+  tells_makes b s k t (IRole r u) = tells_no
+  tells_makes b s k t (IAttr u v) = tells_no
+  tells_makes b s k t (Range u kind) = tells_no
 
   makes_origin : (b : Basic) (s : Element) (k : ℕ) (i : Inclusion) → Contains tbox i → MakesIn b s k i → InOrigin tbox F b (Successor s k)
   makes_origin b s k (IClass c a) i h = absurd h
@@ -249,30 +231,21 @@ module _ (tbox : List Inclusion) (F : Fact Term → Type 0) (l : IsListed F) whe
       at : InOrigin tbox F b (Successor s k) → (i : Inclusion) × (Contains tbox i × MakesIn b s k i)
       at o = go o.start o.starts o.leads
 
-  -- whether an element is in a basic concept
+  -- the element is in the basic concept
+  pub tells_in : (t : Element) (b : Basic) → Tells (is_in tbox facts t b) (IsIn P b t)
+  tells_in (Named x) b = tells_named b x
+  tells_in (Successor s k) b =
+      tells_as (λ w. origin_in tbox F b (Successor s k) (makes_origin b s k w.0 w.1.0 w.1.1), successor_makes b s k) (tells_some (tells_makes b s k (tells_in s)) tbox)
+
+  -- so it is decided
   pub in_decided : (t : Element) (b : Basic) → Decided (IsIn P b t)
-  in_decided (Named x) b = in_named b x
-  in_decided (Successor s k) b =
-      dec_as (λ w. origin_in tbox F b (Successor s k) (makes_origin b s k w.0 w.1.0 w.1.1), successor_makes b s k) (dec_some (makes_in b s k (in_decided s)) tbox)
+  in_decided t b = tells_decided (is_in tbox facts t b) (tells_in t b)
 
-  -- whether it is in the left side of a number with a property
-  abbrev NeedsBy : ℕ → Prop → Element → Type 0
-  NeedsBy k p t = (b : Basic) × ((q : Prop) × ((j : ℕ) × (Adds tbox b q j × ((j ≡ k) × ((q ≡ p) × IsIn P b t)))))
+  -- the element is in the left side of a number, of which and of whose property something is so
+  abbrev pub AddingWith : (ℕ → Prop → Type 0) → Element → Type 0
+  AddingWith Q t = SomeAdding (λ b p k. IsIn P b t × Q k p) tbox
 
-  to_needs : (k : ℕ) (p : Prop) (t : Element) → NeedsBy k p t → Needs tbox P k p t
-  to_needs k p t (b, (q, (j, (a, (e, (f, i)))))) = record { left = b; stated = subst (λ z. Adds tbox b z k) f (subst (Adds tbox b q) e a); is_in = i }
-
-  from_needs : (k : ℕ) (p : Prop) (t : Element) → Needs tbox P k p t → NeedsBy k p t
-  from_needs k p t n = (n.left, (p, (k, (n.stated, (refl, (refl, n.is_in))))))
-
-  pub needs_decided : (k : ℕ) (p : Prop) (t : Element) → Decided (Needs tbox P k p t)
-  needs_decided k p t =
-      dec_as (to_needs k p t, from_needs k p t) (some_adding {Q = λ b q j. (j ≡ k) × ((q ≡ p) × IsIn P b t)} (λ b q j. dec_and (same_number j k) (dec_and (same_prop_decided q p) (in_decided t b))) tbox)
-
-  -- whether what is decided of elements in the left side of a number is so of some number
-  abbrev AddingWith : (ℕ → Prop → Type 0) → Element → Type 0
-  AddingWith Q t = (b : Basic) × ((p : Prop) × ((k : ℕ) × (Adds tbox b p k × (IsIn P b t × Q k p))))
-
+  -- the same, of what the element needs
   abbrev pub NeedWith : (ℕ → Prop → Type 0) → Element → Type 0
   NeedWith Q t = (k : ℕ) × ((p : Prop) × (Needs tbox P k p t × Q k p))
 
@@ -282,8 +255,9 @@ module _ (tbox : List Inclusion) (F : Fact Term → Type 0) (l : IsListed F) whe
   from_need : (Q : ℕ → Prop → Type 0) (t : Element) → NeedWith Q t → AddingWith Q t
   from_need Q t (k, (p, (n, q))) = (n.left, (p, (k, (n.stated, (n.is_in, q)))))
 
-  pub some_need : (Q : ℕ → Prop → Type 0) → ((k : ℕ) (p : Prop) → Decided (Q k p)) → (t : Element) → Decided (NeedWith Q t)
-  some_need Q dec t = dec_as (to_need Q t, from_need Q t) (some_adding {Q = λ b p k. IsIn P b t × Q k p} (λ b p k. dec_and (in_decided t b) (dec k p)) tbox)
+  -- a test of it
+  pub tells_need : {test : ℕ → Prop → Bool} (Q : ℕ → Prop → Type 0) → ((k : ℕ) (p : Prop) → Tells (test k p) (Q k p)) → (t : Element) → Tells (needs_with tbox facts test t) (NeedWith Q t)
+  tells_need Q h t = tells_as (to_need Q t, from_need Q t) (tells_adding (λ b p k. tells_and (tells_in t b) (h k p)) tbox)
 
   -- the fact gives the pair to a property that p is above
   abbrev Gives : Prop → Element → Element → Fact Term → Type 0
@@ -291,12 +265,12 @@ module _ (tbox : List Inclusion) (F : Fact Term → Type 0) (l : IsListed F) whe
   Gives p t u (InRole r x y) = ((t ≡ Named x) × ((u ≡ Named y) × IsBelow tbox (PRole (Direct r)) p)) ⊎ ((t ≡ Named y) × ((u ≡ Named x) × IsBelow tbox (PRole (Inverse r)) p))
   Gives p t u (InAttr v x y) = (t ≡ Named x) × ((u ≡ Named y) × IsBelow tbox (PAttr v) p)
 
-  gives_decided : (p : Prop) (t u : Element) (f : Fact Term) → Decided (Gives p t u f)
-  gives_decided p t u (InClass a x) = inr (λ h. h)
-  gives_decided p t u (InRole r x y) =
-      dec_or (dec_and (same_element t (Named x)) (dec_and (same_element u (Named y)) (below_decided tbox (PRole (Direct r)) p)))
-      (dec_and (same_element t (Named y)) (dec_and (same_element u (Named x)) (below_decided tbox (PRole (Inverse r)) p)))
-  gives_decided p t u (InAttr v x y) = dec_and (same_element t (Named x)) (dec_and (same_element u (Named y)) (below_decided tbox (PAttr v) p))
+  tells_gives : (p : Prop) (t u : Element) (f : Fact Term) → Tells (gives_pair tbox facts p t u f) (Gives p t u f)
+  tells_gives p t u (InClass a x) = tells_no
+  tells_gives p t u (InRole r x y) =
+      tells_or (tells_and (tells_element t (Named x)) (tells_and (tells_element u (Named y)) (tells_below tbox (PRole (Direct r)) p)))
+      (tells_and (tells_element t (Named y)) (tells_and (tells_element u (Named x)) (tells_below tbox (PRole (Inverse r)) p)))
+  tells_gives p t u (InAttr v x y) = tells_and (tells_element t (Named x)) (tells_and (tells_element u (Named y)) (tells_below tbox (PAttr v) p))
 
   given_at : (p q : Prop) (t u : Element) (x y : Term) (f : Fact Term) → In f facts → pair_fact q (Named x) (Named y) ≡ map_fact Named f → t ≡ Named x → u ≡ Named y → IsBelow tbox q p → PairOrigin tbox F p t u
   given_at p q t u x y f i e m n b = given q (record { fact = f; given = (l.are f).1 i; is = ap (λ z. pair_fact q z u) m ∙ ap (pair_fact q (Named x)) n ∙ e }) b
@@ -344,46 +318,54 @@ module _ (tbox : List Inclusion) (F : Fact Term → Type 0) (l : IsListed F) whe
   from_origin p t u (made k q n e b) = inr (inl (k, (q, (n, (e, b)))))
   from_origin p t u (back k q r n e b) = inr (inr (k, (q, (n, (r, (e, b))))))
 
-  pair_by : (p : Prop) (t u : Element) → Decided (PairBy p t u)
-  pair_by p t u =
-      dec_or (dec_among (gives_decided p t u) facts)
-      (dec_or (some_need (MadePair p t u) (λ k q. dec_and (same_element u (Successor t k)) (below_decided tbox q p)) t)
-      (some_need (BackPair p t u) (λ k q. dec_and (is_role q) (dec_and (same_element t (Successor u k)) (below_decided tbox (inverse q) p))) u))
+  tells_pair_by : (p : Prop) (t u : Element) → Tells (is_filler tbox facts p t u) (PairBy p t u)
+  tells_pair_by p t u =
+      tells_or (tells_among (tells_gives p t u) facts)
+      (tells_or (tells_need (MadePair p t u) (λ k q. tells_and (tells_element u (Successor t k)) (tells_below tbox q p)) t)
+      (tells_need (BackPair p t u) (λ k q. tells_and (tells_role q) (tells_and (tells_element t (Successor u k)) (tells_below tbox (inverse q) p))) u))
 
-  -- whether a pair holds
+  -- the pair holds
+  pub tells_filler : (p : Prop) (t u : Element) → Tells (is_filler tbox facts p t u) (P (pair_fact p t u))
+  tells_filler p t u =
+      tells_as (λ w. origin_pair tbox F p t u (to_origin p t u w), λ h. from_origin p t u (pair_origin tbox F (pair_fact p t u) h p t u refl)) (tells_pair_by p t u)
+
+  -- so it is decided
   pub pair_decided : (p : Prop) (t u : Element) → Decided (P (pair_fact p t u))
-  pair_decided p t u =
-      dec_as (λ w. origin_pair tbox F p t u (to_origin p t u w), λ h. from_origin p t u (pair_origin tbox F (pair_fact p t u) h p t u refl)) (pair_by p t u)
+  pair_decided p t u = tells_decided (is_filler tbox facts p t u) (tells_filler p t u)
 
-  -- whether some named term, or the parent, is a filler
-  pub named_filler_decided : (p : Prop) (t : Element) → Decided ((u : Term) × P (pair_fact p t (Named u)))
-  named_filler_decided p t =
-      dec_as (λ w. (w.0, w.1.1), λ w. (w.0, (filler_listed tbox F (terms_of facts) (terms_of_listed F l) p t w.0 w.1, w.1)))
-      (dec_among (λ u. pair_decided p t (Named u)) (terms_of facts))
+  -- some named term, or the parent, is a filler
+  tells_named_filler : (p : Prop) (t : Element) → Tells (has_named_filler tbox facts p t) ((u : Term) × P (pair_fact p t (Named u)))
+  tells_named_filler p t =
+      tells_as (λ w. (w.0, w.1.1), λ w. (w.0, (filler_listed tbox F (terms_of facts) (terms_of_listed F l) p t w.0 w.1, w.1)))
+      (tells_among (λ u. tells_filler p t (Named u)) (terms_of facts))
 
-  pub parent_filler_decided : (p : Prop) (t : Element) → Decided ((u : Element) × (IsParent tbox P t u × P (pair_fact p t u)))
-  parent_filler_decided p (Named x) = inr (λ w. named_apart x w.0 w.1.0.0 w.1.0.1)
-  parent_filler_decided p (Successor s k) = dec_as (to, from) (pair_decided p (Successor s k) s)
-    where
-      to : P (pair_fact p (Successor s k) s) → (u : Element) × (IsParent tbox P (Successor s k) u × P (pair_fact p (Successor s k) u))
-      to h = (s, ((k, refl), h))
+  to_parent : (p : Prop) (s : Element) (k : ℕ) → P (pair_fact p (Successor s k) s) → (u : Element) × (IsParent tbox P (Successor s k) u × P (pair_fact p (Successor s k) u))
+  to_parent p s k h = (s, ((k, refl), h))
 
-      from : (u : Element) × (IsParent tbox P (Successor s k) u × P (pair_fact p (Successor s k) u)) → P (pair_fact p (Successor s k) s)
-      from (u, ((j, e), h)) = let w = successor_parts s u k j e in subst (λ z. P (pair_fact p (Successor s k) z)) (sym w.0) h
+  from_parent : (p : Prop) (s : Element) (k : ℕ) → (u : Element) × (IsParent tbox P (Successor s k) u × P (pair_fact p (Successor s k) u)) → P (pair_fact p (Successor s k) s)
+  from_parent p s k (u, ((j, e), h)) = let w = successor_parts s u k j e in subst (λ z. P (pair_fact p (Successor s k) z)) (sym w.0) h
+
+  -- a named term is no successor
+  pub named_orphan : (p : Prop) (x : Term) → (u : Element) × (IsParent tbox P (Named x) u × P (pair_fact p (Named x) u)) → ⊥
+  named_orphan p x w = named_apart x w.0 w.1.0.0 w.1.0.1
+
+  tells_parent : (p : Prop) (t : Element) → Tells (has_parent_filler tbox facts p t) ((u : Element) × (IsParent tbox P t u × P (pair_fact p t u)))
+  tells_parent p (Named x) = tells_as ((λ h. absurd h), named_orphan p x) tells_no
+  tells_parent p (Successor s k) = tells_as (to_parent p s k, from_parent p s k) (tells_filler p (Successor s k) s)
 
   abbrev IsSmaller : ℕ → Prop → ℕ → Prop → Type 0
   IsSmaller k p j q = (j < k) × AreEquivalent tbox q p
 
-  smaller_decided : (k : ℕ) (p : Prop) (t : Element) → Decided (NeedWith (IsSmaller k p) t)
-  smaller_decided k p t = some_need (IsSmaller k p) (λ j q. dec_and (less_number j k) (equivalent_decided tbox q p)) t
+  tells_smaller : (k : ℕ) (p : Prop) (t : Element) → Tells (needs_with tbox facts (λ j q. nat_lt j k && are_equivalent tbox q p) t) (NeedWith (IsSmaller k p) t)
+  tells_smaller k p t = tells_need (IsSmaller k p) (λ j q. tells_and (tells_less j k) (tells_equivalent tbox q p)) t
 
-  free_decided : (k : ℕ) (p : Prop) (t : Element) → Decided (IsFree tbox P k p t)
-  free_decided k p t =
-      dec_as (
+  tells_free : (k : ℕ) (p : Prop) (t : Element) → Tells (is_free tbox facts k p t) (IsFree tbox P k p t)
+  tells_free k p t =
+      tells_as (
         λ w. record { no_named = λ u h. w.0 (u, h); no_parent = λ u i h. w.1.0 (u, (i, h)); no_smaller = λ j q l e n. w.1.1 (j, (q, (n, (l, e)))) },
         λ f. (λ w. f.no_named w.0 w.1, (λ w. f.no_parent w.0 w.1.0 w.1.1, λ w. f.no_smaller w.0 w.1.0 w.1.1.1.0 w.1.1.1.1 w.1.1.0)),
       )
-      (dec_and (dec_not (named_filler_decided p t)) (dec_and (dec_not (parent_filler_decided p t)) (dec_not (smaller_decided k p t))))
+      (tells_and (tells_not (tells_named_filler p t)) (tells_and (tells_not (tells_parent p t)) (tells_not (tells_smaller k p t))))
 
   abbrev IsGot : ℕ → Element → ℕ → Prop → Type 0
   IsGot k t j p = (j ≡ k) × ((IsSpecialised tbox p → ⊥) → IsFree tbox P k p t)
@@ -394,10 +376,14 @@ module _ (tbox : List Inclusion) (F : Fact Term → Type 0) (l : IsListed F) whe
   from_gets : (k : ℕ) (t : Element) → Gets tbox P k t → NeedWith (IsGot k t) t
   from_gets k t g = (k, (g.prop, (g.needs, (refl, g.free))))
 
-  gets_decided : (k : ℕ) (t : Element) → Decided (Gets tbox P k t)
-  gets_decided k t = dec_as (to_gets k t, from_gets k t) (some_need (IsGot k t) (λ j p. dec_and (same_number j k) (dec_then (dec_not (specialised_decided tbox p)) (free_decided k p t))) t)
+  tells_gets : (k : ℕ) (t : Element) → Tells (gets tbox facts k t) (Gets tbox P k t)
+  tells_gets k t = tells_as (to_gets k t, from_gets k t) (tells_need (IsGot k t) (λ j p. tells_and (tells_number j k) (tells_unless (tells_specialised tbox p) (tells_free k p t))) t)
 
-  -- whether an element is kept
+  -- the element is kept
+  pub tells_kept : (t : Element) → Tells (is_kept tbox facts t) (IsKept tbox P t)
+  tells_kept (Named x) = tells_yes
+  tells_kept (Successor s k) = tells_and (tells_kept s) (tells_gets k s)
+
+  -- so it is decided
   pub kept_decided : (t : Element) → Decided (IsKept tbox P t)
-  kept_decided (Named x) = inl tt
-  kept_decided (Successor s k) = dec_and (kept_decided s) (gets_decided k s)
+  kept_decided t = tells_decided (is_kept tbox facts t) (tells_kept t)

@@ -1,5 +1,5 @@
 -- Atoms and the facts that they are: at(B, x), pairs of a property, and the two readings of a pair.
-use Rattle.std.proofs.Common.{◌≡◌, ℕ, ◌⊎◌, inl, inr, refl, sym, ap, ◌∙◌, subst}
+use Rattle.std.proofs.Common.{◌≡◌, ℕ, refl, sym, ap}
 use Rattle.mast_terms.specs.declared.name.Name.{Name}
 use Rattle.mast_cq.specs.declared.atom.Arg.{Arg}
 use Rattle.mast_cq.specs.declared.atom.Arg.TheVariants.{Blank}
@@ -13,7 +13,7 @@ use Rattle.mast_tbox.specs.declared.expression.Prop.{Prop}
 use Rattle.mast_tbox.specs.declared.expression.Prop.TheVariants.{Role as PRole, Attr as PAttr}
 use Rattle.mast_tbox.specs.declared.expression.RoleExpr.{RoleExpr}
 use Rattle.mast_tbox.specs.declared.expression.RoleExpr.TheVariants.{Direct, Inverse}
-use Rattle.mast_tbox.specs.Expressions.{property, pair, at, inverse, inverse_role}
+use Rattle.mast_tbox.specs.Expressions.{property, pair, at, inverse_role}
 use Rattle.mast_canon.specs.Memberships.{pair_fact, shows}
 
 module _ {X : Type 0} where

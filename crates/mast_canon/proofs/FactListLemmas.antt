@@ -1,38 +1,32 @@
 -- The facts of rows of tables are those of a list, have objects and values in their places, and the names of their heads.
-use Rattle.std.proofs.Common.{◌≡◌, ℕ, zero, suc, ◌≤◌, ◌<◌, ◌⊎◌, inl, inr, ◌↔◌, Bool, true, false, List, [], ◌∷◌, ◌++◌, map, length, Option, Some, None, refl, sym, ap, ◌∙◌, subst, arith}
-use Rattle.std.proofs.lemmas.Bool.{cases_lt, cases_order, false≢true}
+use Rattle.std.proofs.Common.{◌≡◌, ℕ, zero, suc, ◌≤◌, inl, inr, ◌↔◌, Bool, true, false, List, [], ◌∷◌, map, length, Option, Some, None, refl, sym, ap, subst, arith}
+use Rattle.std.proofs.lemmas.Bool.{cases_order, false≢true}
+use Rattle.std.specs.Prelude.{flat_map, if◌then◌else◌}
 use Rattle.std.specs.List.{AllByRecursion, AllZip}
-use Rattle.std.specs.Option.{option_map}
+use Rattle.std.specs.Option.{option_map, option_to_list}
 use Rattle.mast_terms.specs.declared.name.Name.{Name}
 use Rattle.mast_terms.specs.declared.term.Term.{Term}
 use Rattle.mast_terms.specs.declared.term.Term.TheVariants as term
 use Rattle.mast_terms.specs.declared.value.Value.{Value}
 use Rattle.mast_cq.specs.Meanings.{Fact, InClass, InRole, InAttr}
 use Rattle.mast_cq.specs.Queries.{In}
-use Rattle.mast_cq.proofs.ListLemmas.{each_in, in_each, in_append, append_left, append_right, map_in}
+use Rattle.mast_cq.proofs.ListLemmas.{each_in, in_append, append_left, append_right, in_map, map_in}
 use Rattle.mast_terms.specs.declared.name.NameKind.TheVariants as kinds
 use Rattle.mast_mapping.specs.declared.map.Head.{Head}
 use Rattle.mast_mapping.specs.declared.map.Head.TheVariants.{Class, Role, Attr}
-use Rattle.mast_mapping.specs.declared.map.Template.{Template}
 use Rattle.mast_mapping.specs.declared.split_map.SplitMap.{SplitMap}
-use Rattle.mast_sql.specs.declared.query.Comparison.{Comparison}
 use Rattle.mast_sql.specs.declared.query.FromEntry.{FromEntry}
 use Rattle.mast_sql.specs.declared.query.SourceQuery.{SourceQuery}
 use Rattle.mast_tables.specs.declared.declaration.TableDecl.{TableDecl}
 use Rattle.mast_tables.specs.Rows.{Row}
-use Rattle.mast_tbox.specs.Laws.{Decided}
 use Rattle.mast_tbox.specs.Names.{IsStatable}
-use Rattle.mast_tbox.proofs.ThroughLemmas.{dec_and, dec_as}
 use Rattle.mast_canon.specs.declared.rows.RowId.{RowId}
-use Rattle.mast_canon.specs.Choices.{rows_of, IsRowNumber, IsChoice, chosen, compare, operand_value, IsTrueOf, Meets}
-use Rattle.mast_canon.specs.Facts.{of_both, slot_value, slot_values, object_of, fact_of, Gives, chosen_rows, IsSupport, IsFactOf}
+use Rattle.mast_canon.specs.Choices.{rows_of, IsRowNumber, chosen, IsTrueOf}
+use Rattle.mast_canon.specs.FactLists.{up_to, is_true_of, choices, is_met, facts_by, all_facts}
+use Rattle.mast_canon.specs.Facts.{of_both, slot_value, slot_values, object_of, fact_of, chosen_rows, IsFactOf, IsOfTables}
 use Rattle.mast_canon.specs.TheoryPremises.{FactInRange, IsSorted}
-use Rattle.mast_canon.specs.WorldLaws.{IsListed}
-
--- the numbers from 1 to n
-abbrev up_to : ℕ → List ℕ
-up_to zero = []
-up_to (suc n) = suc n ∷ up_to n
+use Rattle.mast_canon.proofs.SupportLemmas.{chosen_lie}
+use Rattle.mast_canon.proofs.TestLemmas.{Tells, tells_each, tells_test}
 
 in_up_to : (n k : ℕ) → 1 ≤ k → k ≤ n → In k (up_to n)
 in_up_to zero k l m = absurd (omega (arith, l, m))
@@ -41,135 +35,96 @@ in_up_to (suc n) k l m = elim (cases_order k (suc n)) [
   | inr d ↦ elim d [ inl less ↦ inr (in_up_to n k l (omega (arith, less))) | inr more ↦ absurd (omega (arith, more, m)) ]
 ]
 
+of_up_to : (n k : ℕ) → In k (up_to n) → (1 ≤ k) × (k ≤ n)
+of_up_to zero k i = absurd i
+of_up_to (suc n) k i = elim i [ inl e ↦ (omega (arith, e), omega (arith, e)) | inr j ↦ (let w = of_up_to n k j in (w.0, omega (arith, w.1))) ]
+
 -- what a function gives of each element, one after the other
-abbrev collect : {A B : Type 0} → (A → List B) → List A → List B
-collect g [] = []
-collect g (x ∷ xs) = g x ++ collect g xs
+into_each : {A B : Type 0} (g : A → List B) (xs : List A) (x : A) (y : B) → In x xs → In y (g x) → In y (flat_map g xs)
+into_each g [] x y i j = absurd i
+into_each g (z ∷ xs) x y (inl e) j = append_left y (g z) (flat_map g xs) (subst (λ w. In y (g w)) e j)
+into_each g (z ∷ xs) x y (inr i) j = append_right y (g z) (flat_map g xs) (into_each g xs x y i j)
 
-into_collect : {A B : Type 0} (g : A → List B) (xs : List A) (x : A) (y : B) → In x xs → In y (g x) → In y (collect g xs)
-into_collect g [] x y i j = absurd i
-into_collect g (z ∷ xs) x y (inl e) j = append_left y (g z) (collect g xs) (subst (λ w. In y (g w)) e j)
-into_collect g (z ∷ xs) x y (inr i) j = append_right y (g z) (collect g xs) (into_collect g xs x y i j)
-
-out_collect : {A B : Type 0} (g : A → List B) (xs : List A) (y : B) → In y (collect g xs) → (x : A) × (In x xs × In y (g x))
-out_collect g [] y i = absurd i
-out_collect g (z ∷ xs) y i = elim (in_append y (g z) (collect g xs) i) [
+out_each : {A B : Type 0} (g : A → List B) (xs : List A) (y : B) → In y (flat_map g xs) → (x : A) × (In x xs × In y (g x))
+out_each g [] y i = absurd i
+out_each g (z ∷ xs) y i = elim (in_append y (g z) (flat_map g xs) i) [
   | inl j ↦ (z, (inl refl, j))
-  | inr j ↦ (let w = out_collect g xs y j in (w.0, (inr w.1.0, w.1.1)))
+  | inr j ↦ (let w = out_each g xs y j in (w.0, (inr w.1.0, w.1.1)))
 ]
 
-each_decided : {A : Type 0} {P : A → Type 0} → ((x : A) → Decided (P x)) → (xs : List A) → Decided (AllByRecursion P xs)
-each_decided dec [] = inl tt
-each_decided dec (x ∷ xs) = dec_and (dec x) (each_decided dec xs)
-
-zip_decided : {A B : Type 0} {R : A → B → Type 0} → ((x : A) (y : B) → Decided (R x y)) → (xs : List A) (ys : List B) → Decided (AllZip R xs ys)
-zip_decided dec [] [] = inl tt
-zip_decided dec [] (y ∷ ys) = inr (λ h. h)
-zip_decided dec (x ∷ xs) [] = inr (λ h. h)
-zip_decided dec (x ∷ xs) (y ∷ ys) = dec_and (dec x y) (zip_decided dec xs ys)
-
-is_true : (b : Bool) → Decided (b ≡ true)
-is_true true = inl refl
-is_true false = inr false≢true
-
--- whether a number is at most another is decided
-pub at_most : (k n : ℕ) → Decided (k ≤ n)
-at_most k n = elim (cases_lt n k) [ inl l ↦ inr (λ m. omega (arith, l, m)) | inr g ↦ inl g ]
-
 module _ (decls : List TableDecl) (tables : List (List Row)) where
-  -- all choices for these entries
-  abbrev choices : List FromEntry → List (List ℕ)
-  choices [] = [] ∷ []
-  choices (entry ∷ entries) = collect (λ n. map (λ c. n ∷ c) (choices entries)) (up_to (length (rows_of decls tables entry)))
-
-  choice_in : (entries : List FromEntry) (choice : List ℕ) → AllZip (λ entry number. IsRowNumber (rows_of decls tables entry) number) entries choice → In choice (choices entries)
+  choice_in : (entries : List FromEntry) (choice : List ℕ) → AllZip (λ entry number. IsRowNumber (rows_of decls tables entry) number) entries choice → In choice (choices decls tables entries)
   choice_in [] [] h = inl refl
   choice_in [] (n ∷ choice) h = absurd h
   choice_in (entry ∷ entries) [] h = absurd h
   choice_in (entry ∷ entries) (n ∷ choice) h =
-      into_collect (λ k. map (λ c. k ∷ c) (choices entries)) (up_to (length (rows_of decls tables entry))) n (n ∷ choice)
-      (in_up_to (length (rows_of decls tables entry)) n h.0.0 h.0.1) (map_in (λ c. n ∷ c) choice (choices entries) (choice_in entries choice h.1))
+      into_each (λ k. map (λ c. k ∷ c) (choices decls tables entries)) (up_to (length (rows_of decls tables entry))) n (n ∷ choice)
+      (in_up_to (length (rows_of decls tables entry)) n h.0.0 h.0.1) (map_in (λ c. n ∷ c) choice (choices decls tables entries) (choice_in entries choice h.1))
 
-  is_choice : (query : SourceQuery) (choice : List ℕ) → Decided (IsChoice decls tables query choice)
-  is_choice query choice = zip_decided (λ entry number. dec_and (at_most 1 number) (at_most number (length (rows_of decls tables entry)))) query.from choice
+  of_choice : (entries : List FromEntry) (choice : List ℕ) → In choice (choices decls tables entries) → AllZip (λ entry number. IsRowNumber (rows_of decls tables entry) number) entries choice
+  of_choice [] [] i = tt
+  of_choice [] (n ∷ choice) i = elim i [ inl e ↦ let f : n ∷ choice ≡ [] = e in cc | inr j ↦ absurd j ]
+  of_choice (entry ∷ entries) choice i =
+      let w = out_each (λ k. map (λ c. k ∷ c) (choices decls tables entries)) (up_to (length (rows_of decls tables entry))) choice i in
+      let m = in_map (λ c. w.0 ∷ c) choice (choices decls tables entries) w.1.1 in
+      subst (AllZip (λ entry number. IsRowNumber (rows_of decls tables entry) number) (entry ∷ entries)) (sym m.is)
+      (of_up_to (length (rows_of decls tables entry)) w.0 w.1.0, of_choice entries m.from m.among)
 
-  meets_decided : (query : SourceQuery) (choice : List ℕ) → Decided (Meets decls tables query choice)
-  meets_decided query choice =
-      dec_as ((λ w. record { is_choice = w.0; conditions = w.1 }), λ m. (m.is_choice, m.conditions))
-      (dec_and (is_choice query choice)
-      (each_decided {P = IsTrueOf decls query.from (chosen decls tables query.from choice)} (λ c. is_true _) query.conditions))
+  tells_met : (query : SourceQuery) (choice : List ℕ) → Tells (is_met decls tables query choice) (AllByRecursion (IsTrueOf decls query.from (chosen decls tables query.from choice)) query.conditions)
+  tells_met query choice = tells_each (λ c. tells_test (is_true_of decls query.from (chosen decls tables query.from choice) c)) query.conditions
 
-  module _ (maps : List SplitMap) (X : RowId → Type 0) (dec : (row : RowId) → Decided (X row)) where
-    -- the choice meets the query of the map, with rows of X
-    abbrev Picks : SplitMap → List ℕ → Type 0
-    Picks m choice = Meets decls tables m.query choice × AllByRecursion X (chosen_rows decls m.query.from choice)
-
-    picks : (m : SplitMap) (choice : List ℕ) → Decided (Picks m choice)
-    picks m choice = dec_and (meets_decided m.query choice) (each_decided dec (chosen_rows decls m.query.from choice))
-
-    abbrev told : Option (Fact Term) → List (Fact Term)
-    told None = []
-    told (Some f) = f ∷ []
-
+  module _ (maps : List SplitMap) where
     abbrev fact_by : SplitMap → List ℕ → Option (Fact Term)
     fact_by m choice = fact_of decls m.query (chosen decls tables m.query.from choice) m.head
 
-    abbrev picked : {A : Type 0} → Decided A → Option (Fact Term) → List (Fact Term)
-    picked (inl a) o = told o
-    picked (inr n) o = []
-
-    abbrev by_choice : SplitMap → List ℕ → List (Fact Term)
-    by_choice m choice = picked (picks m choice) (fact_by m choice)
-
     abbrev by_map : SplitMap → List (Fact Term)
-    by_map m = collect (by_choice m) (choices m.query.from)
+    by_map m = flat_map (facts_by decls tables m) (choices decls tables m.query.from)
 
-    into_told : (o : Option (Fact Term)) (f : Fact Term) → o ≡ Some f → In f (told o)
+    into_told : (o : Option (Fact Term)) (f : Fact Term) → o ≡ Some f → In f (option_to_list o)
     into_told None f e = cc
     into_told (Some g) f e = let w : f ≡ g = cc in inl w
 
-    out_told : (o : Option (Fact Term)) (f : Fact Term) → In f (told o) → o ≡ Some f
+    out_told : (o : Option (Fact Term)) (f : Fact Term) → In f (option_to_list o) → o ≡ Some f
     out_told None f i = absurd i
     out_told (Some g) f (inl e) = ap Some (sym e)
     out_told (Some g) f (inr i) = absurd i
 
-    into_picked : {A : Type 0} (d : Decided A) (o : Option (Fact Term)) (f : Fact Term) → A → o ≡ Some f → In f (picked d o)
-    into_picked (inl a) o f h e = into_told o f e
-    into_picked (inr n) o f h e = absurd (n h)
+    into_picked : {A : Type 0} (b : Bool) (o : Option (Fact Term)) (f : Fact Term) → Tells b A → A → o ≡ Some f → In f (if b then option_to_list o else [])
+    into_picked true o f t h e = into_told o f e
+    into_picked false o f t h e = absurd (false≢true (t.holds h))
 
-    out_picked : {A : Type 0} (d : Decided A) (o : Option (Fact Term)) (f : Fact Term) → In f (picked d o) → A × (o ≡ Some f)
-    out_picked (inl a) o f i = (a, out_told o f i)
-    out_picked (inr n) o f i = absurd i
+    out_picked : {A : Type 0} (b : Bool) (o : Option (Fact Term)) (f : Fact Term) → Tells b A → In f (if b then option_to_list o else []) → A × (o ≡ Some f)
+    out_picked true o f t i = (t.yes refl, out_told o f i)
+    out_picked false o f t i = absurd i
 
-    listed_of : (f : Fact Term) → IsFactOf decls tables maps X f → In f (collect by_map maps)
+    listed_of : (f : Fact Term) → IsFactOf decls tables maps (IsOfTables tables) f → In f (all_facts decls tables maps)
     listed_of f h =
         let s = h.support in
-        let within : AllByRecursion X (chosen_rows decls s.map.query.from s.choice) =
-        in_each X (chosen_rows decls s.map.query.from s.choice) (λ x i. each_in X x h.rows h.within ((s.are x).1 i)) in
-        into_collect by_map maps s.map f s.stands
-        (into_collect (by_choice s.map) (choices s.map.query.from) s.choice f (choice_in s.map.query.from s.choice s.gives.meets.is_choice)
-        (into_picked (picks s.map s.choice) (fact_by s.map s.choice) f (s.gives.meets, within) s.gives.gives))
+        into_each by_map maps s.map f s.stands
+        (into_each (facts_by decls tables s.map) (choices decls tables s.map.query.from) s.choice f (choice_in s.map.query.from s.choice s.gives.meets.is_choice)
+        (into_picked (is_met decls tables s.map.query s.choice) (fact_by s.map s.choice) f (tells_met s.map.query s.choice) s.gives.meets.conditions s.gives.gives))
 
-    of_listed : (f : Fact Term) → In f (collect by_map maps) → IsFactOf decls tables maps X f
+    of_listed : (f : Fact Term) → In f (all_facts decls tables maps) → IsFactOf decls tables maps (IsOfTables tables) f
     of_listed f i =
-        let m = out_collect by_map maps f i in
-        let c = out_collect (by_choice m.0) (choices m.0.query.from) f m.1.1 in
-        let p = out_picked (picks m.0 c.0) (fact_by m.0 c.0) f c.1.1 in
+        let m = out_each by_map maps f i in
+        let c = out_each (facts_by decls tables m.0) (choices decls tables m.0.query.from) f m.1.1 in
+        let p = out_picked (is_met decls tables m.0.query c.0) (fact_by m.0 c.0) f (tells_met m.0.query c.0) c.1.1 in
+        let choice = of_choice m.0.query.from c.0 c.1.0 in
         record {
           rows = chosen_rows decls m.0.query.from c.0;
           support = record {
             map = m.0;
             stands = m.1.0;
             choice = c.0;
-            gives = record { meets = p.0.0; gives = p.1 };
+            gives = record { meets = record { is_choice = choice; conditions = p.0 }; gives = p.1 };
             are = λ row. ((λ x. x), λ x. x);
           };
-          within = p.0.1;
+          within = chosen_lie decls tables m.0.query.from c.0 choice;
         }
 
-    -- the facts of a decided set of rows are those of a list
-    pub facts_listed : IsListed (IsFactOf decls tables maps X)
-    facts_listed = record { list = collect by_map maps; are = λ f. (listed_of f, of_listed f) }
+    -- the facts of all rows are those of the list
+    pub facts_are : (f : Fact Term) → IsFactOf decls tables maps (IsOfTables tables) f ↔ In f (all_facts decls tables maps)
+    facts_are f = (listed_of f, of_listed f)
 
 -- the objects and values of a head's fact stand in their places
 class_sorted : (name : Name) (symbol : List ℕ) (values : Option (List Value)) (f : Fact Term)

@@ -1,7 +1,6 @@
 -- Fillers by an unspecialised property: where they come from, and that a kept element has at most one that is not between named terms.
-use Rattle.std.proofs.Common.{◌≡◌, ℕ, suc, ◌<◌, ◌⊎◌, inl, inr, List, refl, sym, ap, ◌∙◌, subst, arith}
+use Rattle.std.proofs.Common.{◌≡◌, ℕ, ◌⊎◌, inl, inr, List, refl, sym, ap, ◌∙◌, subst}
 use Rattle.std.proofs.lemmas.Bool.{cases_order}
-use Rattle.mast_terms.specs.declared.name.Name.{Name}
 use Rattle.mast_terms.specs.declared.term.Term.{Term}
 use Rattle.mast_cq.specs.Meanings.{Fact, InClass, InRole, InAttr}
 use Rattle.mast_tbox.specs.declared.axiom.Inclusion.{Inclusion}
@@ -18,13 +17,12 @@ use Rattle.mast_tbox.specs.Numbers.{IsNumbered}
 use Rattle.mast_tbox.specs.Properties.{AreEquivalent}
 use Rattle.mast_tbox.specs.Restrictions.{IsSpecialised}
 use Rattle.mast_tbox.proofs.ComponentLemmas.{equivalent_turned, equivalent_join}
-use Rattle.mast_tbox.proofs.EqualityLemmas.{inverse_twice}
 use Rattle.mast_tbox.proofs.JudgeLemmas.{equivalent_inverse}
-use Rattle.mast_canon.specs.Derivations.{FactStep, into_class, adds, ends, widens, IsSource, Holds, source, follows}
+use Rattle.mast_canon.specs.Derivations.{FactStep, Holds, source, follows}
 use Rattle.mast_canon.specs.Elements.{Element, Named, Successor, IsNamed, map_fact}
-use Rattle.mast_canon.specs.KeptTerms.{Needs, IsFree, Gets, IsKept}
+use Rattle.mast_canon.specs.KeptTerms.{Needs, IsFree, IsKept}
 use Rattle.mast_canon.specs.Memberships.{pair_fact, shows}
-use Rattle.mast_canon.proofs.FactLemmas.{pair_turned, Readings, same, turned, readings, no_class}
+use Rattle.mast_canon.proofs.FactLemmas.{pair_turned, same, turned, readings, no_class}
 use Rattle.mast_canon.proofs.UnspecialisedLemmas.{IsRole, equivalent_itself, specialised_join, unspecialised_states, below_role, below_holds, one_adding}
 
 -- the terms of a pair that is a fact over named terms are named

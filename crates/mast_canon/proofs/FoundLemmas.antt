@@ -1,10 +1,9 @@
 -- Each kept element in the left side of a number has a filler among the kept ones.
-use Rattle.std.proofs.Common.{◌≡◌, ℕ, zero, suc, ◌<◌, ◌⊎◌, inl, inr, List, [], ◌∷◌, refl, sym, ap, ◌∙◌, subst, arith}
+use Rattle.std.proofs.Common.{◌≡◌, ℕ, zero, suc, ◌<◌, inl, inr, List, [], ◌∷◌, refl, sym, ap, ◌∙◌, subst, arith}
 use Rattle.std.specs.Cmp.{IsTotalOrder}
 use Rattle.std.specs.Ordering.{ordering_reverse}
 use Rattle.std.specs.declared.cmp.Ordering.{Ordering}
 use Rattle.std.specs.declared.cmp.Ordering.TheVariants.{Less, Equal, Greater}
-use Rattle.mast_terms.specs.declared.name.Name.{Name}
 use Rattle.mast_terms.specs.declared.term.Term.{Term}
 use Rattle.mast_terms.specs.Orders.{term_order}
 use Rattle.mast_terms.proofs.OrderLemmas.{term_orders}
@@ -22,9 +21,9 @@ use Rattle.mast_tbox.specs.Numbers.{IsNumbered}
 use Rattle.mast_tbox.specs.Properties.{AreEquivalent}
 use Rattle.mast_tbox.specs.Restrictions.{IsSpecialised}
 use Rattle.mast_tbox.proofs.ComponentLemmas.{equivalent_join}
-use Rattle.mast_canon.specs.Derivations.{FactStep, into_class, adds, ends, widens, IsSource, Holds, source, follows}
+use Rattle.mast_canon.specs.Derivations.{FactStep, adds, Holds, source, follows}
 use Rattle.mast_canon.specs.Elements.{Element, Named, Successor, map_fact}
-use Rattle.mast_canon.specs.KeptTerms.{Needs, IsFiller, IsFree, Gets, IsKept, IsOwn, IsLeastNamed, IsParentFiller, IsLeastOwn, Fills, IsFound, IsFill}
+use Rattle.mast_canon.specs.KeptTerms.{Needs, Gets, IsKept, IsOwn, IsLeastNamed, IsParentFiller, IsLeastOwn, Fills, IsFound, IsFill}
 use Rattle.mast_canon.specs.KeptWorlds.{OfElements}
 use Rattle.mast_canon.specs.Memberships.{pair_fact, shows}
 use Rattle.mast_canon.proofs.UnspecialisedLemmas.{equivalent_itself, below_holds, one_adding}

@@ -33,7 +33,8 @@ use Rattle.mast_tbox.specs.declared.expression.RoleExpr.{RoleExpr}
 use Rattle.mast_tbox.specs.declared.expression.RoleExpr.TheVariants.{Direct, Inverse}
 use Rattle.mast_tbox.specs.Lists.{items}
 use Rattle.mast_tbox.specs.Names.{RoleNamed, PropNamed, BasicNamed, EndNamed, InclusionNamed, NegativeNamed, StepNamed, ConstraintNamed}
-use Rattle.mast_tbox.specs.Vocabularies.{StandsIn, ConstantsStandIn, AxiomsInRange, ConstraintsInRange}
+use Rattle.mast_tbox.specs.Vocabularies.{ConstantsStandIn, AxiomsInRange, ConstraintsInRange}
+use Rattle.mast_tree.specs.Names.{StandsIn}
 use Rattle.mast_canon.specs.Conditions.{SplitInRange}
 use Rattle.mast_tree.specs.Growing.{BeginsWith, Begins}
 use Rattle.mast_canon.proofs.SupportLemmas.{each_weaker}

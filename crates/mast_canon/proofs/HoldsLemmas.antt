@@ -1,6 +1,5 @@
 -- What grows with the facts: facts that hold, what they break, and the tuples of queries.
 use Rattle.std.proofs.Common.{ℕ, List, [], ◌∷◌}
-use Rattle.std.specs.List.{AllByRecursion}
 use Rattle.mast_terms.specs.declared.name.Name.{Name}
 use Rattle.mast_terms.specs.declared.term.Term.{Term}
 use Rattle.mast_terms.specs.declared.value.Kind.{Kind}
@@ -22,7 +21,7 @@ use Rattle.mast_canon.specs.DerivationLaws.{LieWithin}
 use Rattle.mast_canon.specs.Derivations.{Holds, source, follows}
 use Rattle.mast_canon.specs.Elements.{Element}
 use Rattle.mast_canon.specs.Memberships.{IsIn, LeadsTo, ShareEnd}
-use Rattle.mast_canon.specs.NoModels.{BreaksNegative, BreaksRange, wrong, two, BreaksFunctional, BreaksIdentification, BreaksConstraint, Breaks, negative, range, functional, constraint, asks}
+use Rattle.mast_canon.specs.NoModels.{BreaksNegative, BreaksRange, wrong, two, BreaksFunctional, BreaksConstraint, Breaks, negative, range, functional, constraint, asks}
 use Rattle.mast_canon.specs.Theories.{Theory}
 use Rattle.mast_canon.proofs.SupportLemmas.{each_weaker}
 

@@ -1,6 +1,5 @@
 -- Images: a function on terms takes the facts of one interpretation to those of another, with what they show, break and answer.
-use Rattle.std.proofs.Common.{◌≡◌, ℕ, List, [], ◌∷◌, map, refl, sym, ap, subst}
-use Rattle.std.specs.List.{AllByRecursion}
+use Rattle.std.proofs.Common.{◌≡◌, ℕ, List, [], ◌∷◌, map, refl, ap, subst}
 use Rattle.mast_cq.specs.declared.atom.Arg.{Arg}
 use Rattle.mast_cq.specs.declared.atom.Arg.TheVariants.{Blank, Var, Constant}
 use Rattle.mast_cq.specs.declared.atom.Atom.{Atom}

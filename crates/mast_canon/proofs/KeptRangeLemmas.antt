@@ -1,5 +1,5 @@
 -- Kinds in a kept interpretation: each value has the kind of each of its ranges, where the facts have a model.
-use Rattle.std.proofs.Common.{◌≡◌, ◌≢◌, ℕ, ◌⊎◌, inl, inr, Bool, true, false, List, [], ◌∷◌, ◌++◌, Option, Some, None, Contains, refl, sym, ap, ◌∙◌, subst}
+use Rattle.std.proofs.Common.{◌≡◌, ◌≢◌, ℕ, ◌⊎◌, inl, inr, Bool, true, false, List, [], ◌∷◌, ◌++◌, Option, Some, Contains, refl, sym, ap, ◌∙◌, subst}
 use Rattle.std.proofs.lemmas.Bool.{false≢true}
 use Rattle.mast_terms.specs.declared.name.Name.{Name}
 use Rattle.mast_terms.specs.declared.term.Object.{Object}
@@ -20,13 +20,13 @@ use Rattle.mast_tbox.specs.declared.expression.RoleExpr.{RoleExpr}
 use Rattle.mast_tbox.specs.declared.expression.RoleExpr.TheVariants.{Direct, Inverse}
 use Rattle.mast_tbox.specs.Inclusions.{States}
 use Rattle.mast_tbox.specs.Lists.{items}
-use Rattle.mast_tbox.proofs.MemberLemmas.{front, later, none, first_or, map_in, map_out}
+use Rattle.mast_tbox.proofs.MemberLemmas.{front, later, none, first_or, map_out}
 use Rattle.mast_canon.specs.CertainAnswers.{HoldsBy}
-use Rattle.mast_canon.specs.Derivations.{FactStep, into_class, adds, ends, widens, IsSource, Holds, source, follows}
+use Rattle.mast_canon.specs.Derivations.{FactStep, Holds, source, follows}
 use Rattle.mast_canon.specs.Elements.{Element, Named, Successor, map_fact}
 use Rattle.mast_canon.specs.KeptWorlds.{IsValueOf, IsRangeKind, IsKindOf}
 use Rattle.mast_canon.specs.Memberships.{pair_fact}
-use Rattle.mast_canon.specs.NoModels.{wrong, two, Breaks, range, NoModel}
+use Rattle.mast_canon.specs.NoModels.{wrong, two, range, NoModel}
 use Rattle.mast_canon.specs.Theories.{Theory, stated}
 use Rattle.mast_canon.specs.TheoryPremises.{IsSorted, AreSorted}
 

@@ -1,14 +1,11 @@
 -- Kept law: a kept interpretation of facts that have a model is a world of them, and its answers in named terms are the certain ones.
-use Rattle.std.proofs.Common.{◌≡◌, ◌≢◌, ℕ, ◌⊎◌, inl, inr, ◌↔◌, List, [], ◌∷◌, map, Option, Some, None, Contains, refl, sym, ap, ◌∙◌, subst}
+use Rattle.std.proofs.Common.{◌≡◌, ◌≢◌, ℕ, ◌⊎◌, inl, inr, List, [], map, Option, Some, None, Contains, refl, sym, ap, ◌∙◌, subst}
 use Rattle.std.specs.List.{AllByRecursion}
 use Rattle.mast_terms.specs.declared.name.Name.{Name}
 use Rattle.mast_terms.specs.declared.term.Term.{Term}
 use Rattle.mast_terms.specs.declared.term.Term.TheVariants as term
-use Rattle.mast_terms.specs.declared.value.Kind.{Kind}
-use Rattle.mast_terms.specs.declared.value.Value.{Value}
 use Rattle.mast_terms.proofs.OrderLemmas.{term_equality_test}
 use Rattle.mast_terms.specs.contracts.term.TermPartialEq.TheImpl as term_eq
-use Rattle.mast_tables.specs.Whole.{value_kind}
 use Rattle.mast_cq.specs.declared.atom.Atom.{Atom}
 use Rattle.mast_cq.specs.declared.query.Cq.{Cq}
 use Rattle.mast_cq.specs.Meanings.{Fact, InClass, InRole, InAttr, HasTuple}
@@ -16,7 +13,6 @@ use Rattle.mast_cq.specs.Queries.{In}
 use Rattle.mast_cq.proofs.ListLemmas.{each_in}
 use Rattle.mast_tbox.specs.declared.axiom.Inclusion.{Inclusion}
 use Rattle.mast_tbox.specs.declared.axiom.Inclusion.TheVariants.{Class as IClass, Exists, HasValue, Role as IRole, Attr as IAttr, Range}
-use Rattle.mast_tbox.specs.declared.axiom.Lined.{Lined}
 use Rattle.mast_tbox.specs.declared.axiom.Negative.{Negative}
 use Rattle.mast_tbox.specs.declared.constraint.Constraint.TheVariants.{Functional, Identify, Deny}
 use Rattle.mast_tbox.specs.declared.constraint.Step.{Step}
@@ -30,17 +26,18 @@ use Rattle.mast_tbox.specs.Lists.{items}
 use Rattle.mast_tbox.specs.Restrictions.{Specialises, IsSpecialised, IsFunctional}
 use Rattle.mast_tbox.proofs.MemberLemmas.{map_out}
 use Rattle.mast_canon.specs.CertainAnswers.{HoldsBy, Certain, constant_in}
-use Rattle.mast_canon.specs.Derivations.{into_class, adds, ends, widens, Holds, source, follows}
+use Rattle.mast_canon.specs.Derivations.{into_class, ends, widens, source, follows}
 use Rattle.mast_canon.specs.Elements.{Element, Named, Successor, IsNamed, map_fact}
 use Rattle.mast_canon.specs.Interpretations.{Interpretation, IsTrue, IsAnswer, constant_by}
 use Rattle.mast_canon.specs.KeptTerms.{Needs, IsKept}
 use Rattle.mast_canon.specs.KeptWorlds.{OfElements, IsKindOf, IsKeptWorld}
 use Rattle.mast_canon.specs.Memberships.{pair_fact, shows, IsIn, ShareEnd}
-use Rattle.mast_canon.specs.NoModels.{BreaksNegative, BreaksFunctional, BreaksIdentification, BreaksConstraint, Breaks, negative, functional, constraint, NoModel, asks}
+use Rattle.mast_canon.specs.NoModels.{BreaksNegative, BreaksFunctional, BreaksIdentification, BreaksConstraint, negative, functional, constraint, NoModel, asks}
 use Rattle.mast_canon.specs.Theories.{Theory, stated, constant_of}
 use Rattle.mast_canon.specs.TheoryPremises.{AreSorted, IsRestricted}
 use Rattle.mast_canon.specs.WorldLaws.{KeptLaw}
 use Rattle.mast_canon.specs.Worlds.{IsInEnd, Obeys, HasOneFiller, IsIdentified, IsWorld}
+use Rattle.mast_canon.proofs.ApartLemmas.{unbroken_apart}
 use Rattle.mast_canon.proofs.AnchorLemmas.{has_anchor, along_pair}
 use Rattle.mast_canon.proofs.FactLemmas.{pair_turned}
 use Rattle.mast_canon.proofs.FillerLemmas.{Filler, between, made, back, filler, one_filler, OneOrNamed, named_no_successor}
@@ -236,7 +233,7 @@ module _ (w : Interpretation Element) (theory : Theory) (F : Fact Term → Type 
     values_have_kinds = λ v. subst (λ z. IsKindOf (stated theory) P z (w.kind (w.named (term.Value v)))) (kw.names (term.Value v)) (kw.kinds (w.named (term.Value v)));
     facts_are_true = facts_true;
     obeys = obeyed;
-    keeps_apart = apart;
+    keeps_apart = λ n c. unbroken_apart w n (apart n c);
     functional = has_one;
     identified = is_identified;
     denied = is_denied;

@@ -1,22 +1,13 @@
 -- The named terms of a list of facts.
-use Rattle.std.proofs.Common.{◌≡◌, inl, inr, List, [], ◌∷◌, ◌++◌, refl, subst, sym}
+use Rattle.std.proofs.Common.{inl, inr, List, [], ◌∷◌, refl, subst}
 use Rattle.mast_terms.specs.declared.term.Term.{Term}
 use Rattle.mast_cq.specs.Meanings.{Fact, InClass, InRole, InAttr}
 use Rattle.mast_cq.specs.Queries.{In}
 use Rattle.mast_cq.proofs.ListLemmas.{append_left, append_right}
+pub use Rattle.mast_canon.specs.FactLists.{terms_of}
+use Rattle.mast_canon.specs.FactLists.{terms_in}
 use Rattle.mast_canon.specs.KeptWorlds.{OfElements}
 use Rattle.mast_canon.specs.WorldLaws.{IsListed}
-
--- the terms of a fact
-abbrev pub terms_in : Fact Term → List Term
-terms_in (InClass a t) = t ∷ []
-terms_in (InRole p t u) = t ∷ u ∷ []
-terms_in (InAttr v t u) = t ∷ u ∷ []
-
--- and of facts
-abbrev pub terms_of : List (Fact Term) → List Term
-terms_of [] = []
-terms_of (f ∷ facts) = terms_in f ++ terms_of facts
 
 of_each : (P Q : Term → Type 0) → ((t : Term) → P t → Q t) → (f : Fact Term) → OfElements P f → OfElements Q f
 of_each P Q k (InClass a t) h = k t h

@@ -1,5 +1,5 @@
 -- The normal inclusions keep the facts that hold, over names that documents may use.
-use Rattle.std.proofs.Common.{◌≡◌, ℕ, ◌+◌, ◌<◌, ◌⊎◌, inl, inr, ◌↔◌, List, [], ◌∷◌, Option, Some, None, Contains, refl, sym, ap, ◌∙◌, subst, arith}
+use Rattle.std.proofs.Common.{◌≡◌, ℕ, ◌+◌, ◌⊎◌, inl, inr, ◌↔◌, List, [], ◌∷◌, Option, Some, None, Contains, refl, sym, ap, ◌∙◌, subst, arith}
 use Rattle.mast_terms.specs.declared.name.Name.{Name}
 use Rattle.mast_terms.specs.declared.term.Term.{Term}
 use Rattle.mast_cq.specs.Meanings.{Fact, InClass, InRole, InAttr}
@@ -14,7 +14,7 @@ use Rattle.mast_tbox.specs.declared.expression.RoleExpr.{RoleExpr}
 use Rattle.mast_tbox.specs.declared.expression.RoleExpr.TheVariants.{Direct, Inverse}
 use Rattle.mast_tbox.specs.Inclusions.{first_auxiliary, auxiliary, normal_of, normal, Adds, States}
 use Rattle.mast_tbox.specs.Lists.{items}
-use Rattle.mast_tbox.specs.Names.{RoleNamed, BasicNamed, PropNamed, IsStatable, AreInRange, InRange}
+use Rattle.mast_tbox.specs.Names.{BasicNamed, PropNamed, IsStatable, AreInRange, InRange}
 use Rattle.mast_tbox.specs.Numbers.{IsNumbered}
 use Rattle.mast_tbox.proofs.MemberLemmas.{front, later, none, first_or, only_one}
 use Rattle.mast_tbox.proofs.NumberLemmas.{source_of, normal_has, one_inclusion, no_end}

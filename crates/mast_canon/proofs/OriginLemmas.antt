@@ -1,27 +1,27 @@
 -- Where what holds comes from: a pair, and the membership of an element in a basic concept.
-use Rattle.std.proofs.Common.{◌≡◌, ℕ, ◌⊎◌, inl, inr, List, [], ◌∷◌, Option, Some, None, Contains, refl, sym, ap, ◌∙◌, subst}
+use Rattle.std.proofs.Common.{◌≡◌, ℕ, inl, inr, List, Option, Some, Contains, refl, sym, ap, ◌∙◌, subst}
 use Rattle.mast_terms.specs.declared.name.Name.{Name}
 use Rattle.mast_terms.specs.declared.term.Term.{Term}
 use Rattle.mast_cq.specs.Meanings.{Fact, InClass}
 use Rattle.mast_tbox.specs.declared.axiom.Inclusion.{Inclusion}
-use Rattle.mast_tbox.specs.declared.axiom.Inclusion.TheVariants.{Class as IClass, Exists}
+use Rattle.mast_tbox.specs.declared.axiom.Inclusion.TheVariants.{Exists}
 use Rattle.mast_tbox.specs.declared.expression.Basic.{Basic}
 use Rattle.mast_tbox.specs.declared.expression.Basic.TheVariants.{Class as BClass, Some as BSome, Subjects}
 use Rattle.mast_tbox.specs.declared.expression.Prop.{Prop}
 use Rattle.mast_tbox.specs.declared.expression.Prop.TheVariants.{Role as PRole, Attr as PAttr}
 use Rattle.mast_tbox.specs.declared.expression.RoleExpr.{RoleExpr}
 use Rattle.mast_tbox.specs.Expressions.{inverse, inverse_role, subjects}
-use Rattle.mast_tbox.specs.Inclusions.{Adds, States, Leads, IsDirectlyBelow, by_class, by_filler, by_property}
+use Rattle.mast_tbox.specs.Inclusions.{Adds, States, IsDirectlyBelow, by_class, by_filler, by_property}
 use Rattle.mast_tbox.specs.Lists.{Reaches, itself, onward}
 use Rattle.mast_tbox.specs.Properties.{IsBelow}
 use Rattle.mast_tbox.proofs.EqualityLemmas.{inverse_twice}
 use Rattle.mast_tbox.proofs.JudgeLemmas.{below_inverse}
 use Rattle.mast_tbox.proofs.WorkLemmas.{reaches_join}
-use Rattle.mast_canon.specs.Derivations.{FactStep, into_class, adds, ends, widens, IsSource, Holds, source, follows}
-use Rattle.mast_canon.specs.Elements.{Element, Named, Successor, map_fact}
+use Rattle.mast_canon.specs.Derivations.{FactStep, into_class, adds, ends, IsSource, Holds, source, follows}
+use Rattle.mast_canon.specs.Elements.{Element, Successor}
 use Rattle.mast_canon.specs.KeptTerms.{Needs}
 use Rattle.mast_canon.specs.Memberships.{pair_fact, shows, IsIn}
-use Rattle.mast_canon.proofs.FactLemmas.{pair_turned, Readings, same, turned, readings, no_class}
+use Rattle.mast_canon.proofs.FactLemmas.{pair_turned, same, turned, readings, no_class}
 use Rattle.mast_canon.proofs.UnspecialisedLemmas.{IsRole, leads_holds, below_holds}
 
 -- what shows an element in the subjects of a property is a pair of it

@@ -1,5 +1,5 @@
 -- The theory of a specification is restricted, and over names that documents may use; the facts of tables are those of a list.
-use Rattle.std.proofs.Common.{◌≡◌, ℕ, ◌<◌, ◌≤◌, inl, inr, List, [], ◌∷◌, length, Option, Some, None, Contains, sym, subst, arith}
+use Rattle.std.proofs.Common.{ℕ, inl, inr, List, [], ◌∷◌, Option, Some, None, Contains, sym, subst, arith}
 use Rattle.std.proofs.Math.Logic.{∥∥₁_elim}
 use Rattle.std.specs.Coded.{×_prop, Π_prop, →_prop, Unit-prop, le_prop}
 use Rattle.std.specs.List.{AllByRecursion}
@@ -24,22 +24,22 @@ use Rattle.mast_tbox.specs.declared.expression.Basic.TheVariants.{Class as BClas
 use Rattle.mast_tbox.specs.declared.expression.Prop.{Prop}
 use Rattle.mast_tbox.specs.declared.expression.RoleExpr.{RoleExpr}
 use Rattle.mast_tbox.specs.declared.expression.RoleExpr.TheVariants.{Direct, Inverse}
-use Rattle.mast_tbox.specs.Laws.{Decided}
 use Rattle.mast_tbox.specs.Lists.{items}
 use Rattle.mast_tbox.specs.Names.{RoleNamed, BasicNamed, EndNamed, InclusionNamed, IsStatable, AreInRange}
 use Rattle.mast_tbox.specs.Restrictions.{IsRestrictionBreach, NoneOf}
 use Rattle.mast_tbox.proofs.MemberLemmas.{none, first_or}
-use Rattle.mast_tbox.proofs.ThroughLemmas.{dec_and}
-use Rattle.mast_tbox.specs.Vocabularies.{StandsIn, AxiomsInRange}
+use Rattle.mast_tbox.specs.Vocabularies.{AxiomsInRange}
+use Rattle.mast_tree.specs.Names.{StandsIn}
 use Rattle.mast_canon.specs.declared.rows.RowId.{RowId}
 use Rattle.mast_canon.specs.declared.spec.Spec.{Spec}
 use Rattle.mast_canon.specs.Conditions.{SplitInRange}
 use Rattle.mast_canon.specs.Facts.{IsOfTables}
+use Rattle.mast_canon.specs.KeptMembers.{listed}
 use Rattle.mast_canon.specs.SpecFacts.{FactsOf, AllFacts}
 use Rattle.mast_canon.specs.Theories.{theory_of}
 use Rattle.mast_canon.specs.TheoryPremises.{AreSorted, FactInRange, FactsInRange, IsRestricted, IsStated}
 use Rattle.mast_canon.specs.WorldLaws.{IsListed}
-use Rattle.mast_canon.proofs.FactListLemmas.{IsHeadStatable, at_most, facts_listed, facts_sorted, facts_in_range}
+use Rattle.mast_canon.proofs.FactListLemmas.{IsHeadStatable, facts_are, facts_sorted, facts_in_range}
 use Rattle.mast_canon.proofs.GrowthLemmas.{inclusion_weaker}
 use Rattle.mast_canon.proofs.SupportLemmas.{each_weaker}
 
@@ -57,13 +57,9 @@ unbreached inclusions functional constraints t = ∥∥₁_elim t (×_prop (none
 pub spec_restricted : (spec : Spec) → IsRestricted (theory_of spec)
 spec_restricted spec = record { numbered = spec.tbox.numbered; unbreached = unbreached spec.tbox.inclusions spec.tbox.functional spec.constraints spec.unbreached }
 
--- a row is one of the tables, or not
-of_tables : (tables : List (List Row)) (row : RowId) → Decided (IsOfTables tables row)
-of_tables tables row = dec_and (at_most 1 row.number) (at_most row.number _)
-
 -- the facts of all rows stand in a list
-pub all_listed : (spec : Spec) (tables : List (List Row)) → IsListed (AllFacts spec tables)
-all_listed spec tables = facts_listed spec.tables tables spec.maps (IsOfTables tables) (of_tables tables)
+abbrev pub all_listed : (spec : Spec) (tables : List (List Row)) → IsListed (AllFacts spec tables)
+all_listed spec tables = record { list = listed spec tables; are = facts_are spec.tables tables spec.maps }
 
 -- the facts of all rows have objects and values in their places
 pub all_sorted : (spec : Spec) (tables : List (List Row)) → AreSorted (AllFacts spec tables)

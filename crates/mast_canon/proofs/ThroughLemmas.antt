@@ -1,6 +1,5 @@
 -- What Down says of the facts that hold.
-use Rattle.std.proofs.Common.{◌≡◌, ℕ, ◌↔◌, List, [], ◌∷◌, map, None, Some, refl, sym, ap, ◌∙◌, subst}
-use Rattle.std.specs.List.{AllByRecursion}
+use Rattle.std.proofs.Common.{◌≡◌, ℕ, ◌↔◌, List, [], ◌∷◌, map, None, Some, refl, subst}
 use Rattle.mast_terms.specs.declared.term.Term.{Term}
 use Rattle.mast_cq.specs.declared.atom.Arg.{Arg}
 use Rattle.mast_cq.specs.declared.atom.Arg.TheVariants.{Blank, Var, Constant}
@@ -17,7 +16,7 @@ use Rattle.mast_tbox.specs.Inclusions.{Adds}
 use Rattle.mast_tbox.specs.Laws.{HasNoEnd}
 use Rattle.mast_tbox.specs.Lists.{itself, onward}
 use Rattle.mast_canon.specs.CertainAnswers.{MetThrough}
-use Rattle.mast_canon.specs.Derivations.{FactStep, into_class, adds, ends, widens, IsSource, Holds, source, follows}
+use Rattle.mast_canon.specs.Derivations.{FactStep, Holds, source, follows}
 use Rattle.mast_canon.specs.Elements.{Element, Named, Successor, map_fact}
 use Rattle.mast_canon.specs.Memberships.{pair_fact, shows}
 use Rattle.mast_canon.proofs.FactLemmas.{at_in, at_out, class_of, pair_of}

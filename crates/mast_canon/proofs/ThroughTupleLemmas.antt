@@ -13,7 +13,7 @@ use Rattle.mast_tbox.proofs.NumberLemmas.{no_end}
 use Rattle.mast_canon.specs.CertainAnswers.{HoldsBy, Certain, MetThrough, ThroughDown, constant_in}
 use Rattle.mast_canon.specs.DerivationLaws.{HasNamed}
 use Rattle.mast_canon.specs.Derivations.{Holds}
-use Rattle.mast_canon.specs.Elements.{Element, Named}
+use Rattle.mast_canon.specs.Elements.{Named}
 use Rattle.mast_canon.specs.Theories.{Theory, stated, constant_of}
 use Rattle.mast_canon.specs.TheoryPremises.{FactInRange, FactsInRange, QueryInRange, IsStated}
 use Rattle.mast_canon.proofs.HoldsLemmas.{met_grows}

@@ -1,5 +1,5 @@
 -- Properties that nothing specialises: they go over to equivalent and inverse ones, and what leads to one is equivalent to it.
-use Rattle.std.proofs.Common.{◌≡◌, ℕ, ◌⊎◌, inl, inr, List, [], ◌∷◌, Option, Some, None, Contains, refl, sym, ap, ◌∙◌, subst}
+use Rattle.std.proofs.Common.{◌≡◌, ℕ, inl, inr, List, Some, None, Contains, refl, sym, ap, subst}
 use Rattle.mast_terms.specs.declared.name.Name.{Name}
 use Rattle.mast_terms.specs.declared.term.Term.{Term}
 use Rattle.mast_cq.specs.Meanings.{Fact}
@@ -16,7 +16,7 @@ use Rattle.mast_tbox.specs.Lists.{items, itself, onward}
 use Rattle.mast_tbox.specs.Numbers.{IsNumbered}
 use Rattle.mast_tbox.specs.Properties.{IsBelow, AreEquivalent}
 use Rattle.mast_tbox.specs.Restrictions.{IsLike, Specialises, IsSpecialised}
-use Rattle.mast_tbox.proofs.ComponentLemmas.{equivalent_turned, equivalent_join}
+use Rattle.mast_tbox.proofs.ComponentLemmas.{equivalent_join}
 use Rattle.mast_tbox.proofs.EqualityLemmas.{inverse_twice}
 use Rattle.mast_tbox.proofs.JudgeLemmas.{equivalent_inverse}
 use Rattle.mast_tbox.proofs.NumberLemmas.{one_inclusion}

@@ -1,12 +1,10 @@
 -- World law: each element has an image in a world, under which what holds is true.
-use Rattle.std.proofs.Common.{◌≡◌, ℕ, inl, inr, List, [], ◌∷◌, ◌++◌, map, Option, Some, None, Contains, refl, sym, ap, ◌∙◌, subst}
-use Rattle.std.specs.List.{AllByRecursion}
+use Rattle.std.proofs.Common.{◌≡◌, ℕ, inl, inr, List, [], ◌∷◌, ◌++◌, Some, Contains, refl, sym, subst}
 use Rattle.std.proofs.lemmas.List.Elements.{Contains-append_left, Contains-append_right}
 use Rattle.mast_terms.specs.declared.name.Name.{Name}
 use Rattle.mast_terms.specs.declared.term.Term.{Term}
 use Rattle.mast_terms.specs.declared.term.Term.TheVariants as term
 use Rattle.mast_terms.specs.declared.value.Kind.{Kind}
-use Rattle.mast_terms.specs.declared.value.Value.{Value}
 use Rattle.mast_tables.specs.Whole.{value_kind}
 use Rattle.mast_cq.specs.declared.query.Cq.{Cq}
 use Rattle.mast_cq.specs.Meanings.{Fact, InClass, InRole, InAttr}
@@ -23,14 +21,15 @@ use Rattle.mast_tbox.specs.Lists.{items}
 use Rattle.mast_tbox.specs.Restrictions.{IsFunctional}
 use Rattle.mast_tbox.proofs.MemberLemmas.{front, map_in, map_out}
 use Rattle.mast_canon.specs.CertainAnswers.{HoldsBy, Certain, constant_in}
-use Rattle.mast_canon.specs.Derivations.{FactStep, into_class, adds, ends, widens, IsSource, Holds, source, follows}
+use Rattle.mast_canon.specs.Derivations.{FactStep, IsSource, source, follows}
 use Rattle.mast_canon.specs.Elements.{Element, Named, Successor, map_fact}
 use Rattle.mast_canon.specs.Interpretations.{Interpretation, IsTrue, IsAnswer}
 use Rattle.mast_canon.specs.Memberships.{pair_fact, shows, ShareEnd}
-use Rattle.mast_canon.specs.NoModels.{BreaksRange, wrong, two, BreaksFunctional, BreaksConstraint, Breaks, negative, range, functional, constraint, NoModel, asks}
+use Rattle.mast_canon.specs.NoModels.{BreaksRange, wrong, two, BreaksFunctional, BreaksConstraint, negative, range, functional, constraint, NoModel, asks}
 use Rattle.mast_canon.specs.Theories.{Theory, stated}
 use Rattle.mast_canon.specs.WorldLaws.{WorldLaw}
 use Rattle.mast_canon.specs.Worlds.{IsWorld}
+use Rattle.mast_canon.proofs.ApartLemmas.{apart_unbroken}
 use Rattle.mast_canon.proofs.ImageLemmas.{map_pair, map_shows, in_image, pair_image, negative_image, share_image, tuple_image}
 use Rattle.mast_canon.proofs.SupportLemmas.{each_weaker}
 
@@ -130,7 +129,7 @@ module _ {X : Type 0} (w : Interpretation X) where
 
     -- nothing is broken
     pub world_unbroken : NoModel theory F → ⊥
-    world_unbroken (origin, negative l c b e) = world.keeps_apart l.item (of_item theory.negatives l c) (negative_image image (HoldsBy theory F) T holds_true l.item b)
+    world_unbroken (origin, negative l c b e) = apart_unbroken w l.item (world.keeps_apart l.item (of_item theory.negatives l c)) (negative_image image (HoldsBy theory F) T holds_true l.item b)
     world_unbroken (origin, range before after l u kind e i b f) =
         range_unbroken (items before) u kind (subst (Contains (stated theory)) i (here_in before after l e)) (earlier_in before after l e) b
     world_unbroken (origin, functional l c b e) = functional_unbroken l.item (inl (of_item theory.functional l c)) b

@@ -28,11 +28,13 @@ IsKeptOf w spec tables = IsKeptWorld w (theory_of spec) (AllFacts spec tables)
 
 -- each certain answer over Facts(All) is an answer in the interpretation
 abbrev pub HasCertainAnswers : Interpretation Element → Spec → List (List Row) → Type 0
-HasCertainAnswers w spec tables = (q : Cq) (tuple : List Term) → Certain (theory_of spec) (AllFacts spec tables) q tuple → IsAnswer w (theory_of spec) q tuple
+HasCertainAnswers w spec tables = (q : Cq) (tuple : List Term)
+    → Certain (theory_of spec) (AllFacts spec tables) q tuple → IsAnswer w (theory_of spec) q tuple
 
 -- and it has no others in named terms
 abbrev pub HasOnlyCertainAnswers : Interpretation Element → Spec → List (List Row) → Type 0
-HasOnlyCertainAnswers w spec tables = (q : Cq) (tuple : List Term) → IsAnswer w (theory_of spec) q tuple ↔ Certain (theory_of spec) (AllFacts spec tables) q tuple
+HasOnlyCertainAnswers w spec tables = (q : Cq) (tuple : List Term)
+    → IsAnswer w (theory_of spec) q tuple ↔ Certain (theory_of spec) (AllFacts spec tables) q tuple
 
 -- there is a kept interpretation whose relations are decided, and each is a world with the certain answers where the facts have a model
 pub record KeptLaws (spec : Spec) (tables : List (List Row)) : Type 0 where

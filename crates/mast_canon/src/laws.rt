@@ -9,12 +9,12 @@ ghost use Rattle.mast_canon.specs.Interpretations.{DecidedInterpretation, decide
 ghost use Rattle.mast_canon.specs.Laws.{ChoicesLieInTables, FactsGrow, SplitKeepsSupports, SupportsLieInTables};
 ghost use Rattle.mast_canon.specs.SeenWorlds.{seen};
 ghost use Rattle.mast_canon.specs.SpecFacts.{AllFacts};
-ghost use Rattle.mast_canon.specs.SpecLaws.{HasCertainAnswers, HasNoModel, IsWorldOf, KeptLaws};
+ghost use Rattle.mast_canon.specs.SpecLaws.{HasCertainAnswers, HasNoModel, HasOnlyCertainAnswers, IsKeptOf, IsWorldOf, KeptLaws};
 ghost use Rattle.mast_canon.specs.Theories.{Theory, theory_of};
 ghost use Rattle.mast_canon.specs.WorldLaws.{HasKeptWorld, IsListed, IsWellFormed, KeptIsWorld, ModelsLaw, WorldLaw};
 ghost use Rattle.mast_canon.specs.Worlds.{IsWorld};
 
-use crate::{Spec, Tables, World};
+use crate::{Kept, Spec, Tables, World};
 use mast_cq::Truth;
 use mast_terms::Term;
 
@@ -60,6 +60,15 @@ pub fn world_law<W: World>(world: &W, spec: &Spec, tables: &Tables)
     requires { IsWorldOf (seen W.World world.now) spec.now tables.now.list }
     ensures model { HasNoModel spec.now tables.now.list → ⊥ }
     ensures answers { HasCertainAnswers (seen W.World world.now) spec.now tables.now.list }
+{}
+
+/// Where the facts of all rows have a model, Kept is a world of the specification and these facts, and its answers in named
+/// terms are the certain ones. It is Kept by the definition.
+pub fn kept_law(kept: &Kept<'_>)
+    requires { HasNoModel kept.now.spec.now kept.now.tables.now.list → ⊥ }
+    ensures kept { let k = kept.now in IsKeptOf (seen ⟦<Kept<'static> as World>⟧ k) k.spec.now k.tables.now.list }
+    ensures world { let k = kept.now in IsWorldOf (seen ⟦<Kept<'static> as World>⟧ k) k.spec.now k.tables.now.list }
+    ensures answers { let k = kept.now in HasOnlyCertainAnswers (seen ⟦<Kept<'static> as World>⟧ k) k.spec.now k.tables.now.list }
 {}
 
 /// 'No model' and 'certain' have their ordinary meaning over the worlds whose relations are decided, whatever cells the

@@ -5,6 +5,7 @@
 #![tactic(auto)]
 
 mod columns;
+mod kept;
 mod laws;
 mod making;
 mod origin;
@@ -13,9 +14,10 @@ mod spec;
 mod world;
 
 pub use columns::{Place, output_place, place_of, table_number};
+pub use kept::Kept;
 pub use laws::{
-    conflict_law, decided_kept_law, decided_models_law, decided_world_law, growth_law, models_law,
-    normal_law, split_law, support_law, through_law, world_law,
+    conflict_law, decided_kept_law, decided_models_law, decided_world_law, growth_law, kept_law,
+    models_law, normal_law, split_law, support_law, through_law, world_law,
 };
 pub use origin::{Ground, Origin};
 pub use rows::{RowId, Tables, row_laws};

@@ -1,4 +1,5 @@
-//! Tests of mast_canon: that documents that are read one after the other make a specification, and what it has.
+//! Tests of mast_canon: that documents that are read one after the other make a specification, and what it has; and what the
+//! laws of worlds say of a world, of Kept and of facts as crates above have them.
 //! That what their readers tell gives what `Spec::new` needs is proved in proofs/ReaderLemmas.antt.
 #![tactic(auto)]
 
@@ -6,3 +7,8 @@
 mod documents;
 #[cfg(test)]
 mod tests;
+mod worlds;
+
+pub use worlds::{
+    Everything, Members, facts_alone_have_a_model, kept_has_the_certain_answers, members_laws,
+};
