@@ -2,3 +2,4 @@ pub mod CountingMeetings
 pub mod Closures
 pub mod Rewritings
 pub mod ClosureLaws
+pub mod inside
