@@ -1,0 +1,3 @@
+-- The lemmas, by topic.
+pub mod JoinLemmas
+pub mod TermLemmas

@@ -1,0 +1,11 @@
+pub mod AssignmentLemmas
+pub mod HashLemmas
+pub mod IndexLemmas
+pub mod JoinLemmas
+pub mod LastLemmas
+pub mod ListLemmas
+pub mod MatchLemmas
+pub mod PlanningLemmas
+pub mod RowSetLemmas
+pub mod SliceLemmas
+pub mod StoreLemmas

@@ -1,0 +1,5 @@
+pub mod Matches
+pub mod Plans
+pub mod Slices
+pub mod Stores
+pub mod inside

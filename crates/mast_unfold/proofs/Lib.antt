@@ -1,0 +1,14 @@
+pub mod ElementLemmas
+pub mod LookupLemmas
+pub mod SpreadLemmas
+pub mod EquationLemmas
+pub mod HeadLemmas
+pub mod SlotLemmas
+pub mod FormLemmas
+pub mod ListingLemmas
+pub mod IndexLemmas
+pub mod KnownLemmas
+pub mod OverLemmas
+pub mod CellLemmas
+pub mod NoteLemmas
+pub mod LinkLemmas
