@@ -1,0 +1,4 @@
+pub mod Patterns
+pub mod ViolationLists
+pub mod Breaches
+pub mod inside
