@@ -1,0 +1,4 @@
+pub mod Evaluated
+pub mod Formulas
+pub mod Laws
+pub mod Satisfaction

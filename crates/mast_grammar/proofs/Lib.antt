@@ -1,0 +1,11 @@
+pub mod DerivativeLemmas
+pub mod Examples
+pub mod FitLemmas
+pub mod FormLemmas
+pub mod LawLemmas
+pub mod LookLemmas
+pub mod PredictLemmas
+pub mod ReaderLemmas
+pub mod RunLemmas
+pub mod StackLemmas
+pub mod WrittenLemmas

@@ -1,0 +1,4 @@
+pub mod Breaches
+pub mod Grammar
+pub mod Laws
+pub mod inside

@@ -1,0 +1,5 @@
+-- What private functions alone cite.
+pub mod Machine
+pub mod Predict
+pub mod Reader
+pub mod Rules

@@ -1,0 +1,3 @@
+pub mod LexingLemmas
+pub mod PassLemmas
+pub mod TerminalLemmas
