@@ -7,8 +7,8 @@ use Rattle.std.specs.List.{All, dedup, dedup_from, AllByRecursion}
 use Rattle.std.specs.List.Sorted.{IsStrictlySortedBy}
 use Rattle.std.specs.Ordering.{is_lt}
 use Rattle.std.specs.Cmp.Lexicographic.{slice_cmp, pointwise, bytes_decides, on_texts, texts_ties}
-use Rattle.mast_write.specs.LineText.{IsTextOf, StandsIn, lines_text}
-use Rattle.mast_write.specs.inside.Places.{ArePlaces, Begins, IsPlace, Place, line_of, lines_of}
+use Rattle.mast_write.specs.LineText.{IsCountedText, IsTextOf, StandsIn, lines_text}
+use Rattle.mast_write.specs.inside.Places.{ArePlaces, Begins, IsPlace, Place, kept, line_of, lines_of}
 use Rattle.mast_write.proofs.WordLemmas.{place_order, same_order}
 
 by_test : {X : Type 0} (b : Bool) (x y u v : X) → x ≡ u → y ≡ v → cond b x y ≡ cond b u v
@@ -59,19 +59,27 @@ sorted_lines front places fronts words sorted k d from less =
     sym (ap is_lt (same_order front (get_or places (k + 1) d) (get_or places k d) (fronts (k + 1) d less) (fronts k d low) (words (k + 1) d less) (words k d low)))
     ∙ sorted k d from less
 
--- the lines of sorted places, each once, are the text of the lines before
-pub text_of_places : (lines : List (List ℕ)) (places sorted : List Place) (text : List ℕ) → ArePlaces lines places → IsPermutation places sorted → IsSorted place_order sorted
-    → text ≡ lines_text (dedup (pointwise nat_eq) (lines_of sorted)) → IsTextOf (StandsIn lines) text
+text_of_places : (lines : List (List ℕ)) (places sorted : List Place) (text : List ℕ) → ArePlaces lines places → IsPermutation places sorted → IsSorted place_order sorted
+    → text ≡ lines_text (kept (lines_of sorted)) → IsTextOf (StandsIn lines) text
 text_of_places lines places sorted text are moved ordered is =
     let begun = subst (AllByRecursion (Begins are.front)) (sym are.are) are.begin in
     let fronts = All-permutation (λ (p : Place). Begins are.front (line_of p)) places sorted moved (fronts_at are.front places begun) in
     let words = All-permutation (IsPlace (length are.front)) places sorted moved (all_at (IsPlace (length are.front)) places are.words) in
-    let kept = dedup_map line_of (pointwise nat_eq) sorted in
+    let same = dedup_map line_of (pointwise nat_eq) sorted in
     let there = IsPermutation-map line_of places sorted moved in
     record {
       lines = dedup (pointwise nat_eq) (lines_of sorted);
-      sorted = subst (IsStrictlySortedBy (slice_cmp nat_cmp)) kept (strict_map line_of (slice_cmp nat_cmp) _ (IsStrictlySortedBy-dedup (on_texts line_of) (λ a b. texts_ties (line_of a) (line_of b)) sorted (sorted_lines are.front sorted fronts words ordered)));
+      sorted = subst (IsStrictlySortedBy (slice_cmp nat_cmp)) same (strict_map line_of (slice_cmp nat_cmp) _ (IsStrictlySortedBy-dedup (on_texts line_of) (λ a b. texts_ties (line_of a) (line_of b)) sorted (sorted_lines are.front sorted fronts words ordered)));
       each = λ l h. subst (λ ls. Contains ls l) are.are (Contains-permutation (lines_of sorted) (lines_of places) l (IsPermutation-sym _ _ there) (Contains-from_dedup (pointwise nat_eq) (lines_of sorted) l h));
       all = λ l h. Contains-dedup nat_list_eq_equiv same_bytes (lines_of sorted) l (Contains-permutation (lines_of places) (lines_of sorted) l there (subst (λ ls. Contains ls l) (sym are.are) h));
       is = is;
     }
+
+-- the lines of sorted places, each once, are the text of the lines before, and are as many
+pub counted_of_places : (lines : List (List ℕ)) (places sorted : List Place) (text : List ℕ) (count : ℕ) → ArePlaces lines places → IsPermutation places sorted
+    → IsSorted place_order sorted → text ≡ lines_text (kept (lines_of sorted)) → count ≡ length (kept (lines_of sorted)) → IsCountedText (StandsIn lines) text count
+unfolding text_of_places
+counted_of_places lines places sorted text count are moved ordered is members = record {
+  set = text_of_places lines places sorted text are moved ordered is;
+  members = members;
+}

@@ -1,3 +1,5 @@
+pub mod AnswerLines
+pub mod ConflictLines
 pub mod FactLines
 pub mod FactPlans
 pub mod Laws

@@ -1,5 +1,5 @@
 -- The text of a set of lines.
-use Rattle.std.specs.Prelude.{◌≡◌, ℕ, List, [], ◌∷◌, ◌++◌, codes, Contains}
+use Rattle.std.specs.Prelude.{◌≡◌, ℕ, List, [], ◌∷◌, ◌++◌, length, codes, Contains}
 use Rattle.std.specs.Ordering.{nat_cmp}
 use Rattle.std.specs.List.Sorted.{IsStrictlySortedBy}
 use Rattle.std.specs.Cmp.Lexicographic.{slice_cmp}
@@ -16,6 +16,11 @@ pub record IsTextOf (IsLine : List ℕ → Type 0) (text : List ℕ) : Type 0 wh
   pub each : (line : List ℕ) → Contains lines line → IsLine line
   pub all : (line : List ℕ) → IsLine line → Contains lines line
   pub is : text ≡ lines_text lines
+
+-- the text of a set of lines, and how many members it has
+pub record IsCountedText (IsLine : List ℕ → Type 0) (text : List ℕ) (count : ℕ) : Type 0 where
+  pub set : IsTextOf IsLine text
+  pub members : count ≡ length set.lines
 
 -- the lines that stand in a list
 abbrev pub StandsIn : List (List ℕ) → List ℕ → Type 0

@@ -118,7 +118,7 @@ pub(crate) fn violation_closure(alloc: Global, doc: DocName, line: u32) -> Resul
     Ok(format!(in alloc; "limit closure violation {doc} line {line}\n")?.into_bytes())
 }
 
-fn doc_word(doc: DocName) -> &'static str
+pub(crate) fn doc_word(doc: DocName) -> &'static str
     ensures { result.now ≡ lines.doc_word doc }
 {
     match doc {

@@ -5,7 +5,7 @@ ghost use Rattle.mast_write.specs.RefusalLines as lines;
 
 use mast_sparsql::{QueryBreach, QueryKind};
 use mast_tables::{RowBreach, RowKind};
-use mast_terms::{NoMemory, Term, Text, Value, write_term};
+use mast_terms::{NoMemory, Text, Value, write_value};
 use std::alloc::Global;
 
 // `refused query NAME token T KIND`, or `limit LIMIT query NAME token T`
@@ -40,7 +40,7 @@ fn query_refused(alloc: Global, file: &Text, token: u32, kind: &str) -> Result<V
     ensures { IfOk result (λ text. text.items ≡ (lines.query_refused file.now token kind.now).1) }
 {
     let mut text = b"refused query ".to_vec(alloc)?;
-    push_quoted(alloc, file, &mut text)?;
+    push_quoted(alloc, file.as_str(), &mut text)?;
     push_text(format!(in alloc; " token {token} {kind}\n")?, &mut text)?;
     Ok(text)
 }
@@ -50,7 +50,7 @@ fn query_limit(alloc: Global, file: &Text, token: u32, name: &str) -> Result<Vec
     ensures { IfOk result (λ text. text.items ≡ (lines.query_limit file.now token name.now).1) }
 {
     let mut text = format!(in alloc; "limit {name} query ")?.into_bytes();
-    push_quoted(alloc, file, &mut text)?;
+    push_quoted(alloc, file.as_str(), &mut text)?;
     push_text(format!(in alloc; " token {token}\n")?, &mut text)?;
     Ok(text)
 }
@@ -99,7 +99,7 @@ pub(crate) fn query_bytes(alloc: Global, file: &Text) -> Result<Vec<u8>, NoMemor
     ensures { IfOk result (λ text. text.items ≡ (lines.query_bytes file.now).1) }
 {
     let mut text = b"limit bytes query ".to_vec(alloc)?;
-    push_quoted(alloc, file, &mut text)?;
+    push_quoted(alloc, file.as_str(), &mut text)?;
     text.push(b'\n')?;
     Ok(text)
 }
@@ -122,7 +122,7 @@ pub(crate) fn block_closure(
     ensures { IfOk result (λ text. text.items ≡ (lines.block_closure file.now table block).1) }
 {
     let mut text = b"limit closure query ".to_vec(alloc)?;
-    push_quoted(alloc, file, &mut text)?;
+    push_quoted(alloc, file.as_str(), &mut text)?;
     push_text(
         format!(in alloc; " table {table} block {block}\n")?,
         &mut text,
@@ -135,21 +135,21 @@ pub(crate) fn read_fault(alloc: Global, file: &Text) -> Result<Vec<u8>, NoMemory
     ensures { IfOk result (λ text. text.items ≡ (lines.read_fault file.now).1) }
 {
     let mut text = b"read fault ".to_vec(alloc)?;
-    push_quoted(alloc, file, &mut text)?;
+    push_quoted(alloc, file.as_str(), &mut text)?;
     text.push(b'\n')?;
     Ok(text)
 }
 
 // Appends the name of a file, printed as a text.
-fn push_quoted(alloc: Global, name: &Text, text: &mut Vec<u8>) -> Result<(), NoMemory>
+pub(crate) fn push_quoted(alloc: Global, name: &str, text: &mut Vec<u8>) -> Result<(), NoMemory>
     ensures { OnOk result (text.new.items ≡ text.old.items ++ quoted name.now) }
 {
-    let name = Term::Value(Value::Text(name.copy(alloc)?));
-    write_term(alloc, &name, text)
+    let name = Value::Text(Text::from_str(alloc, name)?);
+    write_value(alloc, &name, text)
 }
 
 // Appends the bytes of a string.
-fn push_text(more: String, text: &mut Vec<u8>) -> Result<(), NoMemory>
+pub(crate) fn push_text(more: String, text: &mut Vec<u8>) -> Result<(), NoMemory>
     ensures { OnOk result (text.new.items ≡ text.old.items ++ string_bytes more) }
 {
     text.extend_from_slice(more.as_bytes())?;

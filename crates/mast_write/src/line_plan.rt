@@ -2,7 +2,8 @@
 ghost use Rattle.std.specs.Prelude.{◌≡◌, ◌++◌, [], IfOk, OnOk, OnErr};
 ghost use Rattle.std.specs.List.{AllByRecursion};
 ghost use Rattle.mast_canon.specs.Conditions.{TablesHaveNumbers};
-ghost use Rattle.mast_mapping.specs.InRange.{IsHeadIn, IsNameIn};
+ghost use Rattle.mast_mapping.specs.InRange.{IsHeadIn};
+ghost use Rattle.mast_tree.specs.Names.{StandsIn};
 ghost use Rattle.mast_mapping.specs.OverTables.{IsHeadOver, IsObjectOver, IsSlotOver};
 ghost use Rattle.mast_terms.specs.Printed.{value_text};
 ghost use Rattle.mast_write.specs.inside.Plans.{Adds, AddsBytes, AddsCell, AreThere, IsPlan, cells_line};
@@ -81,7 +82,7 @@ impl LinePlan {
         name: Name,
         subject: &Template,
     ) -> Result<(), NoMemory>
-        requires named { IsNameIn source.now.vocab.now NameKind.Class name }
+        requires named { StandsIn source.now.vocab.now NameKind.Class name.0 }
         requires over { IsObjectOver source.now.tables.now source.now.query.now subject.now }
         ensures { OnOk result (Adds source.now self.old self.new (class_text name subject.now)) }
     {
@@ -100,7 +101,7 @@ impl LinePlan {
         from: &Template,
         to: &Template,
     ) -> Result<(), NoMemory>
-        requires named { IsNameIn source.now.vocab.now NameKind.Role name }
+        requires named { StandsIn source.now.vocab.now NameKind.Role name.0 }
         requires from { IsObjectOver source.now.tables.now source.now.query.now from.now }
         requires to { IsObjectOver source.now.tables.now source.now.query.now to.now }
         ensures { OnOk result (Adds source.now self.old self.new (role_text name from.now to.now)) }
@@ -122,7 +123,7 @@ impl LinePlan {
         from: &Template,
         value: &Slot,
     ) -> Result<(), NoMemory>
-        requires named { IsNameIn source.now.vocab.now NameKind.Attr name }
+        requires named { StandsIn source.now.vocab.now NameKind.Attr name.0 }
         requires from { IsObjectOver source.now.tables.now source.now.query.now from.now }
         requires value { IsSlotOver source.now.tables.now source.now.query.now value.now }
         ensures { OnOk result (Adds source.now self.old self.new (attr_text name from.now value.now)) }
@@ -137,7 +138,7 @@ impl LinePlan {
 
     // `<iri>(`
     fn push_name(&mut self, source: &Source<'_>, kind: NameKind, name: Name) -> Result<(), NoMemory>
-        requires { IsNameIn source.now.vocab.now kind name }
+        requires { StandsIn source.now.vocab.now kind name.0 }
         ensures { OnOk result (AddsBytes self.old self.new (name_text source.now.vocab.now kind name)) }
     {
         self.push_bytes(b"<")?;

@@ -1,10 +1,10 @@
 //! Lines in one buffer, in the order in which they are written, and their text.
 ghost use Rattle.std.specs.Prelude.{◌≡◌, ◌++◌, ◌∷◌, [], IfOk, OnOk, OnErr};
 ghost use Rattle.mast_terms.specs.Printed.{term_text, value_text};
-ghost use Rattle.mast_write.specs.LineText.{IsTextOf, StandsIn};
+ghost use Rattle.mast_write.specs.LineText.{IsCountedText, IsTextOf, StandsIn};
 ghost use Rattle.mast_write.specs.Written.{blank};
 
-use crate::places::sorted_text;
+use crate::places::{Counted, sorted_text};
 use mast_terms::{NoMemory, Term, Value, write_term, write_value};
 use std::alloc::Global;
 use std::marker::Model;
@@ -93,9 +93,17 @@ impl Lines {
         self.bytes.truncate(self.begin);
     }
 
-    /// The text of the lines that stand complete: sorted by their bytes, each different line once, with a line feed each.
+    /// The text of the lines that stand complete: sorted by their bytes, each once, with a line feed each.
     pub fn into_text(self, alloc: Global) -> Result<Vec<u8>, NoMemory>
         ensures { IfOk result (λ text. IsTextOf (StandsIn self.lines) text.items) }
+    {
+        let Counted { text, count: _ } = self.into_counted(alloc)?;
+        Ok(text)
+    }
+
+    // That text, and how many different lines it has.
+    pub(crate) fn into_counted(self, alloc: Global) -> Result<Counted, NoMemory>
+        ensures { IfOk result (λ c. IsCountedText (StandsIn self.lines) c.text.items c.count) }
     {
         let Lines {
             bytes,

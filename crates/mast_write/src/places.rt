@@ -1,10 +1,9 @@
 //! Lines as places in the buffer that holds them: sorted, and printed each once.
-ghost use Rattle.std.specs.Prelude.{◌≡◌, ◌+◌, ◌*◌, ◌++◌, ℕ, suc, length, take, drop, codes, nat_eq, IfOk, OnOk};
-ghost use Rattle.std.specs.List.{AllByRecursion, dedup, dedup_from};
-ghost use Rattle.std.specs.Cmp.Lexicographic.{pointwise};
-ghost use Rattle.mast_write.specs.LineText.{IsTextOf, StandsIn, lines_text};
+ghost use Rattle.std.specs.Prelude.{◌≡◌, ◌+◌, ◌*◌, ◌++◌, ℕ, suc, length, take, drop, codes, IfOk, OnOk};
+ghost use Rattle.std.specs.List.{AllByRecursion};
+ghost use Rattle.mast_write.specs.LineText.{IsCountedText, StandsIn, lines_text};
 ghost use Rattle.mast_write.specs.inside.Buffers.{pieces};
-ghost use Rattle.mast_write.specs.inside.Places.{ArePlaces, Begins, IsPlace, lines_of, word_of};
+ghost use Rattle.mast_write.specs.inside.Places.{ArePlaces, Begins, IsPlace, kept, kept_from, kept_text, lines_of, word_of};
 
 use mast_terms::NoMemory;
 use std::alloc::Global;
@@ -18,13 +17,20 @@ const WORD_BYTES: usize = 8;
 // A line, and the number that its eight bytes behind the front of all lines spell, which most often tells lines apart.
 type Place<'a> = (u64, &'a [u8]);
 
-// The text of the lines of these lengths that the bytes hold, one after the other.
+// The text of a set of lines, and how many lines it has.
+#[derive(Drop)]
+pub(crate) struct Counted {
+    pub(crate) text: Vec<u8>,
+    pub(crate) count: usize,
+}
+
+// The text of the lines of these lengths that the bytes hold, one after the other, and how many lines it has.
 pub(crate) fn sorted_text(
     alloc: Global,
     bytes: &[u8],
     lengths: Vec<usize>,
-) -> Result<Vec<u8>, NoMemory>
-    ensures { IfOk result (λ text. IsTextOf (StandsIn (pieces lengths.items bytes.now)) text.items) }
+) -> Result<Counted, NoMemory>
+    ensures { IfOk result (λ c. IsCountedText (StandsIn (pieces lengths.items bytes.now)) c.text.items c.count) }
 {
     let mut places = all_places(alloc, bytes, lengths)?;
     places.sort_unstable();
@@ -122,28 +128,34 @@ fn word(bytes: &[u8]) -> u64
 }
 
 // The lines in order, each once, each with its line feed. `most` is how many bytes they may have together.
-fn join_once(alloc: Global, places: &[Place], most: usize) -> Result<Vec<u8>, NoMemory>
-    ensures { IfOk result (λ text. text.items ≡ lines_text (dedup (pointwise nat_eq) (lines_of places.now))) }
+fn join_once(alloc: Global, places: &[Place], most: usize) -> Result<Counted, NoMemory>
+    ensures text { IfOk result (λ c. c.text.items ≡ lines_text (kept (lines_of places.now))) }
+    ensures count { IfOk result (λ c. c.count ≡ length (kept (lines_of places.now))) }
 {
     let mut text = Vec::with_capacity(alloc, most.saturating_add(places.len()))?;
+    let mut count = 0;
     if let [first, rest @ ..] = places {
-        join_after(first.1, rest, &mut text)?;
+        count = join_after(first.1, rest, &mut text)?;
     }
-    Ok(text)
+    Ok(Counted { text, count })
 }
 
-// Appends a line, and those of the places after it that differ from the one before them.
-fn join_after(line: &[u8], places: &[Place], text: &mut Vec<u8>) -> Result<(), NoMemory>
-    ensures { OnOk result (text.new.items ≡ text.old.items ++ lines_text (dedup_from (pointwise nat_eq) line.now (lines_of places.now))) }
+// Appends a line, and those of the places after it that differ from the one before them. It gives how many it appends.
+fn join_after(line: &[u8], places: &[Place], text: &mut Vec<u8>) -> Result<usize, NoMemory>
+    ensures text { OnOk result (text.new.items ≡ text.old.items ++ kept_text line.now (lines_of places.now)) }
+    ensures count { IfOk result (λ count. count ≡ length (kept_from line.now (lines_of places.now))) }
 {
     let mut last = line;
+    let mut count = 0;
     for place in places {
         if place.1 != last {
             push_line(last, text)?;
+            count += 1;
             last = place.1;
         }
     }
-    push_line(last, text)
+    push_line(last, text)?;
+    Ok(count + 1)
 }
 
 // Appends a line and its line feed.

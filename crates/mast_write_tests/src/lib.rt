@@ -1,4 +1,4 @@
-//! Tests of mast_write: every line of a refusal, the usage text, and the texts of facts and of lines.
+//! Tests of mast_write: every line of a refusal, the usage text, and the texts of facts, answers, conflicts and lines.
 #![tactic(auto)]
 
 #[cfg(test)]

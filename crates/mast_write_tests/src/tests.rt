@@ -1,14 +1,20 @@
-//! Tests of mast_write: every line of a refusal, the usage text, and the texts of facts and of lines.
+//! Tests of mast_write: every line of a refusal, the usage text, and the texts of facts, answers, conflicts and lines.
 ghost use Rattle.std.specs.Prelude.{◌<◌, length, IfOk};
 ghost use Rattle.mast_terms.specs.Vocabularies.{iris};
 ghost use Rattle.mast_write.specs.FactLines.{IsFactOf};
 
+use mast_canon::{Ground, Origin, RowId};
 use mast_sparsql::{QueryBreach, QueryKind};
-use mast_tables::{RowBreach, RowKind};
+use mast_tables::{RowBreach, RowKind, TableDecl};
 use mast_tbox::{RestrictionBreach, RestrictionKind};
-use mast_terms::{Args, List, Name, NameKind, NoMemory, Object, Term, Text, Value, Vocabulary};
+use mast_terms::{
+    Args, List, Name, NameKind, NoMemory, Object, Term, Text, Tuple, Value, Vocabulary,
+};
 use mast_tree::{DocName, LexBreach, LexKind, ShapeBreach, ShapeKind, TreeBreach, TreeKind};
-use mast_write::{EventKind, Fact, Lines, Refusal, facts_text, refusal_text, usage_text};
+use mast_write::{
+    EventKind, Fact, Lines, Refusal, answer_text, conflict_text, facts_text, refusal_text,
+    summary_text, usage_text,
+};
 use std::alloc::Global;
 use std::test::Fail;
 
@@ -499,5 +505,115 @@ fn facts_are_printed_once_in_the_order_of_their_lines(rt: HostRuntime) -> Result
     let text = values_text(alloc)?;
     let wanted = "<http://e/a>(-1,\"a\\tb\")\n<http://e/a>(2,\"a\\tb\")\n";
     assert!(rt; text.as_slice() == wanted.as_bytes());
+    Ok(())
+}
+
+// The tuple of `p(number)` and a text.
+fn tuple(alloc: Global, number: i64, text: &str) -> Result<Tuple, NoMemory> {
+    let mut args = Args::new(alloc);
+    args.push(alloc, Value::Int(number))?;
+    let symbol = Text::from_str(alloc, "p")?;
+    let mut terms = List::new(alloc);
+    terms.push(alloc, Term::Object(Object { symbol, args }))?;
+    terms.push(
+        alloc,
+        Term::Value(Value::Text(Text::from_str(alloc, text)?)),
+    )?;
+    Ok(terms)
+}
+
+static NO_ANSWER: &str = "query \"q.sq\" rows 0\nx\n";
+
+static ANSWERS: &str =
+    "query \"a\\tb.sq\" rows 3\nx\tn\np(10)\t\"a\\tb\"\np(2)\t\"\"\np(2)\t\"\\n\"\n";
+
+#[test]
+fn answers_are_counted_and_printed_by_line(rt: HostRuntime) -> Result<(), Fail> {
+    let alloc = rt.alloc();
+    let header = [Text::from_str(alloc, "x")?];
+    let rows: [Tuple; 0] = [];
+    let text = answer_text(alloc, "q.sq", &header, &rows)?;
+    assert!(rt; text.as_slice() == NO_ANSWER.as_bytes());
+    let header = [Text::from_str(alloc, "x")?, Text::from_str(alloc, "n")?];
+    let rows = [
+        tuple(alloc, 2, "\n")?,
+        tuple(alloc, 10, "a\tb")?,
+        tuple(alloc, 2, "")?,
+        tuple(alloc, 10, "a\tb")?,
+    ];
+    let text = answer_text(alloc, "a\tb.sq", &header, &rows)?;
+    assert!(rt; text.as_slice() == ANSWERS.as_bytes());
+    let text = summary_text(alloc, "q1.sq", 5000)?;
+    assert!(rt; text.as_slice() == b"query \"q1.sq\" rows 5000\n".as_slice());
+    Ok(())
+}
+
+// A declared table of this name.
+fn table(alloc: Global, name: &str) -> Result<TableDecl, NoMemory> {
+    Ok(TableDecl {
+        name: Text::from_str(alloc, name)?,
+        file: Text::from_str(alloc, "t.csv")?,
+        columns: List::new(alloc),
+    })
+}
+
+static GROUNDS: [(Ground, &str); 6] = [
+    (
+        Ground::Disjoint,
+        "conflict disjoint ontology line 3\nrow u 7\nrow t 7\nrow t 1001\n",
+    ),
+    (
+        Ground::Irreflexive,
+        "conflict irreflexive ontology line 3\nrow u 7\nrow t 7\nrow t 1001\n",
+    ),
+    (
+        Ground::ValueType,
+        "conflict type ontology line 3\nrow u 7\nrow t 7\nrow t 1001\n",
+    ),
+    (
+        Ground::Functional,
+        "conflict functional ontology line 3\nrow u 7\nrow t 7\nrow t 1001\n",
+    ),
+    (
+        Ground::Identify,
+        "conflict identify ontology line 3\nrow u 7\nrow t 7\nrow t 1001\n",
+    ),
+    (
+        Ground::Deny,
+        "conflict deny ontology line 3\nrow u 7\nrow t 7\nrow t 1001\n",
+    ),
+];
+
+#[test]
+fn rows_of_a_conflict_are_printed_once_in_declared_order(rt: HostRuntime) -> Result<(), Fail> {
+    let alloc = rt.alloc();
+    let tables = [table(alloc, "u")?, table(alloc, "t")?];
+    let rows = [
+        RowId {
+            table: 1,
+            number: 1001,
+        },
+        RowId {
+            table: 1,
+            number: 7,
+        },
+        RowId {
+            table: 0,
+            number: 7,
+        },
+        RowId {
+            table: 1,
+            number: 1001,
+        },
+    ];
+    for (ground, wanted) in GROUNDS {
+        let origin = Origin {
+            ground,
+            doc: DocName::Ontology,
+            line: 3,
+        };
+        let text = conflict_text(alloc, &origin, &tables, &rows)?;
+        assert!(rt; text.as_slice() == wanted.as_bytes());
+    }
     Ok(())
 }

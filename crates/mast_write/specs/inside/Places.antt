@@ -1,7 +1,9 @@
 -- Lines as places in a buffer, and the words by which they are sorted.
-use Rattle.std.specs.Prelude.{◌≡◌, ◌<◌, ◌+◌, ◌*◌, ℕ, zero, suc, List, [], ◌∷◌, ◌++◌, length, drop, map}
-use Rattle.std.specs.List.{AllByRecursion}
+use Rattle.std.specs.Prelude.{◌≡◌, ◌<◌, ◌+◌, ◌*◌, ℕ, zero, suc, List, [], ◌∷◌, ◌++◌, length, drop, map, nat_eq}
+use Rattle.std.specs.Cmp.Lexicographic.{pointwise}
+use Rattle.std.specs.List.{AllByRecursion, dedup, dedup_from}
 use Rattle.mast_write.specs.declared.places.TheConstants.{BYTE_VALUES, WORD_BYTES}
+use Rattle.mast_write.specs.LineText.{lines_text}
 use denote.Ref.{Bor}
 
 -- a line begins with a front
@@ -38,3 +40,15 @@ pub record ArePlaces (lines : List (List ℕ)) (places : List Place) : Type 0 wh
   pub begin : AllByRecursion (Begins front) lines
   pub are : lines_of places ≡ lines
   pub words : AllByRecursion (IsPlace (length front)) places
+
+-- the lines without those that equal the one before them
+abbrev pub kept : List (List ℕ) → List (List ℕ)
+kept lines = dedup (pointwise nat_eq) lines
+
+-- a line, and so with those behind it
+abbrev pub kept_from : List ℕ → List (List ℕ) → List (List ℕ)
+kept_from line lines = dedup_from (pointwise nat_eq) line lines
+
+-- the text of these
+abbrev pub kept_text : List ℕ → List (List ℕ) → List ℕ
+kept_text line lines = lines_text (kept_from line lines)
