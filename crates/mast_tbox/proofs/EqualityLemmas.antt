@@ -55,7 +55,7 @@ basic_itself (BSome r) = role_itself r
 basic_itself (Subjects a) = eq-eqb a.0 a.0 refl
 
 -- a test that holds exactly of equal ones is an equivalence
-equivalence_by : {X : Type 0} (eq : X → X → Bool) → ((x y : X) → eq x y ≡ true → x ≡ y) → ((x : X) → eq x x ≡ true) → IsEquivalence eq
+pub equivalence_by : {X : Type 0} (eq : X → X → Bool) → ((x y : X) → eq x y ≡ true → x ≡ y) → ((x : X) → eq x x ≡ true) → IsEquivalence eq
 equivalence_by {X} eq same itself = record { refl = itself; symm = λ x y. both_ways x y (eq x y) (eq y x) refl refl; congr = λ x y z e. ap (λ w. eq w z) (same x y e) }
   where
     both_ways : (x y : X) (a b : Bool) → eq x y ≡ a → eq y x ≡ b → eq x y ≡ eq y x

@@ -21,3 +21,4 @@ pub mod RangeLemmas
 pub mod OrderLemmas
 pub mod StatedLemmas
 pub mod OneBreachLemmas
+pub mod LinkLemmas

@@ -86,6 +86,26 @@ pub record Worked {X : Type 0} (steps : X → List X) (start : X) (keys : List X
   pub begins : Contains keys start
   pub closed : (j : ℕ) (g h : X) → j < done → slice_get keys j ≡ Some g → Contains (steps g) h → Contains keys h
 
+module _ {X : Type 0} (eq : X → X → Bool) (same : (x y : X) → eq x y ≡ true → x ≡ y) (steps : X → List X) where
+  -- where the steps on one element more are there, the first ones with it have what their steps give
+  closed_more : (keys new : List X) (done : ℕ) (node : X) → Some node ≡ slice_get keys done → new ≡ insert_all eq keys (steps node) → done < length keys
+      → ((j : ℕ) (g h : X) → j < done → slice_get keys j ≡ Some g → Contains (steps g) h → Contains keys h)
+      → (j : ℕ) (g h : X) → j < done + 1 → slice_get new j ≡ Some g → Contains (steps g) h → Contains new h
+  closed_more keys new done node at e within closed j g h l i c = go (dec_lt j done)
+    where
+      grows : Extends keys new
+      grows = subst (Extends keys) (sym e) (all_extends eq same (steps node) keys)
+
+      here : slice_get new done ≡ Some g → Contains new h
+      here k =
+          let q : Some g ≡ Some node = sym k ∙ (extends_get keys new grows done within ∙ sym at) in
+          let f : g ≡ node = cc in
+          subst (λ v. Contains v h) (sym e) (all_has eq same (steps node) keys h (subst (λ v. Contains (steps v) h) f c))
+
+      go : Dec (j < done) → Contains new h
+      go (yes d) = extends_contains keys new grows h (closed j g h d (sym (extends_get keys new grows j (omega arith)) ∙ i) c)
+      go (no d) = let f : j ≡ done = omega arith in here (subst (λ v. slice_get new v ≡ Some g) f i)
+
 module _ {X : Type 0} (eq : X → X → Bool) (same : (x y : X) → eq x y ≡ true → x ≡ y) (steps : X → List X) (start : X) where
   -- before any element was worked on, the start alone is there
   pub worked_first : (old new : List X) → length old ≡ 0 → new ≡ insert_key eq old start → Worked steps start new 0
@@ -103,25 +123,9 @@ module _ {X : Type 0} (eq : X → X → Bool) (same : (x y : X) → eq x y ≡ t
       | inl i ↦ w.reached m i
       | inr i ↦ reaches_more start node m (w.reached node (at_place keys done node (sym at))) i
     ];
-    begins = extends_contains keys new grows start w.begins;
-    closed = closed_more;
+    begins = extends_contains keys new (subst (Extends keys) (sym e) (all_extends eq same (steps node) keys)) start w.begins;
+    closed = closed_more eq same steps keys new done node at e within w.closed;
   }
-    where
-      grows : Extends keys new
-      grows = subst (Extends keys) (sym e) (all_extends eq same (steps node) keys)
-
-      here : (g h : X) → slice_get new done ≡ Some g → Contains (steps g) h → Contains new h
-      here g h i c =
-          let q : Some g ≡ Some node = sym i ∙ (extends_get keys new grows done within ∙ sym at) in
-          let f : g ≡ node = cc in
-          subst (λ v. Contains v h) (sym e) (all_has eq same (steps node) keys h (subst (λ v. Contains (steps v) h) f c))
-
-      closed_more : (j : ℕ) (g h : X) → j < done + 1 → slice_get new j ≡ Some g → Contains (steps g) h → Contains new h
-      closed_more j g h l i c = go (dec_lt j done)
-        where
-          go : Dec (j < done) → Contains new h
-          go (yes d) = extends_contains keys new grows h (w.closed j g h d (sym (extends_get keys new grows j (omega arith)) ∙ i) c)
-          go (no d) = let f : j ≡ done = omega arith in here g h (subst (λ v. slice_get new v ≡ Some g) f i) c
 
   worked_in : (keys : List X) (done : ℕ) → Worked steps start keys done → length keys ≤ done → (g h : X) → Contains keys g → Reaches (λ x y. Contains (steps x) y) g h → Contains keys h
   worked_in keys done w l g h c itself = c
@@ -141,6 +145,66 @@ worked_by eq same steps S are start keys done w l m =
       λ r. h.1 (reaches_weaker (λ x y. (are x y).1) start m r),
     )
 
+-- the keys were there before or are reached from the start, which is one of them, and hold what the steps on the first ones give
+pub record Widened {X : Type 0} (steps : X → List X) (old : List X) (start : X) (keys : List X) (done : ℕ) : Type 0 where
+  pub reached : (m : X) → Contains keys m → Contains old m ⊎ Reaches (λ g h. Contains (steps g) h) start m
+  pub extends : Extends old keys
+  pub begins : Contains keys start
+  pub closed : (j : ℕ) (g h : X) → j < done → slice_get keys j ≡ Some g → Contains (steps g) h → Contains keys h
+
+module _ {X : Type 0} (eq : X → X → Bool) (same : (x y : X) → eq x y ≡ true → x ≡ y) (steps : X → List X) (start : X) where
+  -- a set that has what the steps on its elements give, with the start
+  pub widened_first : (old new : List X) → ((g h : X) → Contains old g → Contains (steps g) h → Contains old h) → new ≡ insert_key eq old start → Widened steps old start new (length old)
+  widened_first old new closed e = record {
+    reached = λ m c. elim (insert_from eq same old start m (subst (λ w. Contains w m) e c)) [
+      | inl i ↦ inl i
+      | inr f ↦ inr (subst (Reaches (λ g h. Contains (steps g) h) start) (sym f) itself)
+    ];
+    extends = grows;
+    begins = subst (λ w. Contains w start) (sym e) (Contains-insert_key eq same old start);
+    closed = λ j g h l i c. extends_contains old new grows h (closed g h (at_place old j g (sym (extends_get old new grows j l) ∙ i)) c);
+  }
+    where
+      grows : Extends old new
+      grows = subst (Extends old) (sym e) (insert_extends eq same old start)
+
+  -- one element more was worked on
+  pub widened_more : (old keys new : List X) (done : ℕ) (node : X) → Widened steps old start keys done → Some node ≡ slice_get keys done → new ≡ insert_all eq keys (steps node) → done < length keys
+      → ((m : X) → Contains old node → Contains (steps node) m → Contains old m) → Widened steps old start new (done + 1)
+  widened_more old keys new done node w at e within here = record {
+    reached = λ m c. elim (all_from eq same (steps node) keys m (subst (λ v. Contains v m) e c)) [
+      | inl i ↦ w.reached m i
+      | inr i ↦ elim (w.reached node (at_place keys done node (sym at))) [ inl o ↦ inl (here m o i) | inr r ↦ inr (reaches_more start node m r i) ]
+    ];
+    extends = extends_join old keys new w.extends grows;
+    begins = extends_contains keys new grows start w.begins;
+    closed = closed_more eq same steps keys new done node at e within w.closed;
+  }
+    where
+      grows : Extends keys new
+      grows = subst (Extends keys) (sym e) (all_extends eq same (steps node) keys)
+
+  widened_in : (old keys : List X) (done : ℕ) → Widened steps old start keys done → length keys ≤ done → (g h : X) → Contains keys g → Reaches (λ x y. Contains (steps x) y) g h → Contains keys h
+  widened_in old keys done w l g h c itself = c
+  widened_in old keys done w l g h c (onward {y = i} s d) =
+      widened_in old keys done w l i h (w.closed c.0 g i (let k = c.1 in omega arith) (place_of keys c.0 g c.1 c.2) s) d
+
+-- where all keys were worked on they are what was there and what is reached, by any relation that the steps are
+pub widened_by : {X : Type 0} (eq : X → X → Bool) → ((x y : X) → eq x y ≡ true → x ≡ y) → (steps : X → List X) (S : X → X → Type 0) → ((x y : X) → Contains (steps x) y ↔ S x y) → (start : X) (old keys : List X) (done : ℕ)
+    → Widened steps old start keys done → length keys ≤ done → (m : X) → Contains keys m ↔ (Contains old m ⊎ Reaches S start m)
+widened_by eq same steps S are start old keys done w l m = (
+  λ c. elim (w.reached m c) [ inl i ↦ inl i | inr r ↦ inr (reaches_weaker (λ x y. (are x y).0) start m r) ],
+  λ d. elim d [
+    | inl i ↦ extends_contains old keys w.extends m i
+    | inr r ↦ widened_in eq same steps start old keys done w l start m w.begins (reaches_weaker (λ x y. (are x y).1) start m r)
+  ],
+)
+
+-- then they have what the steps on any of them give
+pub widened_closed : {X : Type 0} {S : X → X → Type 0} (start : X) (old new : List X) → ((g h : X) → Contains old g → S g h → Contains old h) → ((m : X) → Contains new m ↔ (Contains old m ⊎ Reaches S start m))
+    → (g h : X) → Contains new g → S g h → Contains new h
+widened_closed start old new closed are g h c s = (are h).1 (elim ((are g).0 c) [ inl i ↦ inl (closed g h i s) | inr r ↦ inr (reaches_more start g h r s) ])
+
 -- a place that is not there is past the end
 pub past_end : {X : Type 0} (xs : List X) (j : ℕ) → slice_get xs j ≡ None → length xs ≤ j
 past_end [] j e = omega arith
@@ -152,6 +216,11 @@ pub before_end : {X : Type 0} (xs : List X) (j : ℕ) (x : X) → slice_get xs j
 before_end [] j x e = cc
 before_end (y ∷ xs) zero x e = omega arith
 before_end (y ∷ xs) (suc j) x e = let h = before_end xs j x e in omega arith
+
+-- a list without length has no element
+pub nothing : {X : Type 0} (xs : List X) → length xs ≡ 0 → (x : X) → Contains xs x → ⊥
+nothing [] z x c = none x c
+nothing (y ∷ xs) z x c = absurd (omega arith)
 
 -- a property of the start that goes along the steps is one of all that is reached
 pub reaches_least : {X : Type 0} {S : X → X → Type 0} (P : X → Type 0) → ((x y : X) → P x → S x y → P y) → (x y : X) → P x → Reaches S x y → P y

@@ -17,6 +17,7 @@ use Rattle.mast_tbox.specs.Arguments.{HaveSameArguments}
 use Rattle.mast_tbox.specs.Closure.{AtomStep, Down}
 use Rattle.mast_tbox.specs.Inclusions.{normal}
 use Rattle.mast_tbox.specs.Lists.{items}
+use Rattle.mast_tbox.specs.NameLinks.{atom_name, AreLinked}
 use Rattle.mast_tbox.specs.Names.{AreNamed, AuxiliariesPass, AtomInRange, PropInRange, name_bounds}
 use Rattle.mast_tbox.specs.Numbers.{number_of}
 use Rattle.mast_tbox.specs.Properties.{IsBelow, AreEquivalent}
@@ -76,6 +77,10 @@ IsClosed tbox P = (g h : Atom) → P g → AtomStep tbox g h → P h
 -- a set, given by a test, that has the atom and is closed under the steps has all of Down
 abbrev pub IsLeast : List Inclusion → Atom → Type 0
 IsLeast tbox g = (set : Atom → Bool) → Has set g → IsClosed tbox (Has set) → (h : Atom) → Down tbox g h → Has set h
+
+-- two atoms whose Downs have members of one name have names that inclusions link
+abbrev pub MeetingsAreLinked : List Inclusion → Type 0
+MeetingsAreLinked tbox = (g h a b : Atom) → Down tbox g a → Down tbox h b → atom_name a ≡ atom_name b → AreLinked tbox g h
 
 -- a member of Down has the arguments of its atom, with their sorts
 abbrev pub KeepsArguments : List Inclusion → Type 0

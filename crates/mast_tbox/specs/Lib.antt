@@ -7,6 +7,7 @@ pub mod Names
 pub mod Vocabularies
 pub mod Arguments
 pub mod Closure
+pub mod NameLinks
 pub mod Properties
 pub mod Restrictions
 pub mod ConstraintForms

@@ -1,8 +1,9 @@
 //! What is below an atom.
-ghost use Rattle.std.specs.Prelude.{◌≡◌, ◌↔◌, Contains, IfOk, OnOk};
+ghost use Rattle.std.specs.Prelude.{◌≡◌, ◌↔◌, ◌⊎◌, Contains, IfOk, OnOk};
 ghost use Rattle.mast_cq.specs.declared.atom.Atom.{Atom};
 ghost use Rattle.mast_cq.specs.NormalForms.{Ordered};
 ghost use Rattle.mast_tbox.specs.Closure.{Down};
+ghost use Rattle.mast_tbox.specs.Laws.{IsClosed};
 ghost use Rattle.mast_tbox.specs.inside.StepLists.{steps_of, if_blank, all_at, all_pairs};
 ghost use Rattle.mast_tbox.specs.inside.Chosen.{AreAdded};
 
@@ -27,21 +28,35 @@ impl NormalTBox {
         listed(alloc, set.as_slice())
     }
 
+    /// Adds `Down` of an atom to a set that is closed under the steps by inclusions, as the empty set is and each that this call
+    /// leaves.
+    ///
+    /// The steps on what is in the set already are not looked at: the work is that of the atoms that are added.
+    pub fn add_down(&self, set: &mut IndexSet<Atom>, atom: Atom) -> Result<(), NoMemory>
+        requires { IsClosed self.now (Contains set.old.keys) }
+        ensures exact { OnOk result ((h : Atom) → Contains set.new.keys h ↔ (Contains set.old.keys h ⊎ Down self.now atom h)) }
+        ensures closed { OnOk result (IsClosed self.now (Contains set.new.keys)) }
+    {
+        atom_laws();
+        let start = set.len();
+        set.insert(atom)?;
+        for done in start..usize::MAX {
+            let next = match set.get_index(done) {
+                Some(next) => *next,
+                None => return Ok(()),
+            };
+            self.add_steps(set, next)?;
+        }
+        let _count = set.len();
+        Ok(())
+    }
+
     // The atoms in the order in which they are reached.
     fn reached(&self, alloc: Global, atom: Atom) -> Result<IndexSet<Atom>, NoMemory>
         ensures { IfOk result (λ set. (h : Atom) → Contains set.keys h ↔ Down self.now atom h) }
     {
-        atom_laws();
         let mut set = IndexSet::new(alloc);
-        set.insert(atom)?;
-        for done in 0..usize::MAX {
-            let next = match set.get_index(done) {
-                Some(next) => *next,
-                None => return Ok(set),
-            };
-            self.add_steps(&mut set, next)?;
-        }
-        let _count = set.len();
+        self.add_down(&mut set, atom)?;
         Ok(set)
     }
 

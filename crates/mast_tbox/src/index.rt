@@ -58,7 +58,8 @@ fn add_concepts(
     }
 }
 
-fn add_concept(
+/// Adds that one basic concept is directly below another, or linked with it.
+pub(crate) fn add_concept(
     alloc: Global,
     groups: &mut Groups<Basic>,
     sub: Basic,

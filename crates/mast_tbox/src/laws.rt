@@ -4,7 +4,7 @@ ghost use Rattle.mast_cq.specs.declared.atom.Atom.{Atom};
 ghost use Rattle.mast_tbox.specs.Closure.{AtomStep, Down};
 ghost use Rattle.mast_tbox.specs.Expressions.{inverse};
 ghost use Rattle.mast_tbox.specs.Inclusions.{normal, directly_below, IsDirectlyBelow};
-ghost use Rattle.mast_tbox.specs.Laws.{Decided, IsDecided, IsReflexive, IsTransitive, IsSymmetric, IsKeptBy, IsFinite, NumbersDiffer, HasNoEnd, IsClosed, IsLeast, KeepsArguments, DrawsArguments, KeepsVariables, KeepsTwice, KeepsSorts, KeepsRange, KeepsPassing, NormalPasses, RangeIsBounded, BelowAgrees, EquivalentAgrees, SpecialisedAgrees, BreachLaw};
+ghost use Rattle.mast_tbox.specs.Laws.{Decided, IsDecided, IsReflexive, IsTransitive, IsSymmetric, IsKeptBy, IsFinite, NumbersDiffer, HasNoEnd, IsClosed, IsLeast, KeepsArguments, DrawsArguments, KeepsVariables, KeepsTwice, KeepsSorts, KeepsRange, KeepsPassing, NormalPasses, RangeIsBounded, BelowAgrees, EquivalentAgrees, SpecialisedAgrees, MeetingsAreLinked, BreachLaw};
 ghost use Rattle.mast_tbox.specs.Lists.{Reaches, items};
 ghost use Rattle.mast_tbox.specs.Names.{AreInRange};
 ghost use Rattle.mast_tbox.specs.Numbers.{IsNumbered};
@@ -37,6 +37,11 @@ pub fn down_law()
     ensures joined { (tbox : List Inclusion) → IsTransitive (Down tbox) }
     ensures decided { (tbox : List Inclusion) → IsDecided (Down tbox) }
     ensures finite { (tbox : List Inclusion) (g : Atom) → IsFinite (Down tbox g) }
+{}
+
+/// Where members of `Down` of two atoms have one name, inclusions link the names of the two atoms.
+pub fn link_law()
+    ensures { (tbox : List Inclusion) → MeetingsAreLinked tbox }
 {}
 
 /// What `Down` keeps of an atom: its arguments, but for `_`, each with its sort; the variables that occur in it and

@@ -15,6 +15,8 @@ mod expression;
 mod groups;
 mod index;
 mod laws;
+mod name_chiefs;
+mod name_links;
 mod normal_inclusions;
 mod prop_set;
 mod restriction;
@@ -24,8 +26,8 @@ pub use axiom::{Inclusion, Lined, Negative};
 pub use constraint::{Constraint, Constraints, MOST_ATOMS, Step};
 pub use expression::{Basic, Prop, RoleExpr, basic_laws, prop_laws};
 pub use laws::{
-    below_law, decided_law, down_law, member_law, number_law, one_breach_law, property_order_law,
-    stated_law,
+    below_law, decided_law, down_law, link_law, member_law, number_law, one_breach_law,
+    property_order_law, stated_law,
 };
 pub use normal_inclusions::{NormalTBox, normal};
 pub use restriction::{RestrictionBreach, RestrictionKind, restriction_breach};

@@ -1,16 +1,20 @@
 //! The normal inclusions of a TBox.
-ghost use Rattle.std.specs.Prelude.{◌≡◌, ◌++◌, ◌<◌, Some, IfOk, OnOk};
+ghost use Rattle.std.specs.Prelude.{◌≡◌, ◌++◌, ◌<◌, ◌↔◌, true, Some, IfOk, OnOk};
 ghost use Rattle.mast_tbox.specs.Inclusions.{normal as normal_inclusions, normal_of, directly_below};
 ghost use Rattle.mast_tbox.specs.inside.StepLists.{leading_to};
 ghost use Rattle.mast_tbox.specs.declared.axiom.Inclusion.TheVariants.{Exists};
 ghost use Rattle.mast_tbox.specs.Lists.{items};
+ghost use Rattle.mast_tbox.specs.NameLinks.{AreLinked};
 ghost use Rattle.mast_tbox.specs.Numbers.{number_of};
 ghost use Rattle.mast_tbox.specs.inside.Bounds.{AllBelow};
 
 use crate::expression::{basic_laws, prop_laws};
 use crate::groups::Groups;
 use crate::index::{concepts_below, props_below};
+use crate::name_chiefs::NameChiefs;
+use crate::name_links::{atom_name, name_chiefs};
 use crate::{Basic, Inclusion, Lined, Prop, RoleExpr, TBox};
+use mast_cq::Atom;
 use mast_terms::{Name, NoMemory};
 use std::alloc::Global;
 use std::marker::Model;
@@ -21,18 +25,19 @@ pub struct NormalTBox {
     inclusions: Vec<Inclusion>,
     concepts: Groups<Basic>,
     props: Groups<Prop>,
+    chiefs: NameChiefs,
 }
 
 impl Model for NormalTBox {
     ghost use Rattle.std.specs.Prelude.{List};
     ghost use Rattle.mast_tbox.specs.declared.axiom.Inclusion.{Inclusion};
-    ghost use Rattle.mast_tbox.specs.inside.Groups.{IsIndex};
+    ghost use Rattle.mast_tbox.specs.inside.Linking.{IsLookup};
 
     ghost Value = { List Inclusion };
 
     ghost view = { λ n. n.inclusions.items };
 
-    ghost invariant = { λ n. IsIndex n.inclusions.items n.concepts n.props };
+    ghost invariant = { λ n. IsLookup n.inclusions.items n.concepts n.props n.chiefs };
 }
 
 /// The normal inclusions of a TBox: those of the TBox in order, without the ranges. Each qualified one of number k is
@@ -44,10 +49,12 @@ pub fn normal(alloc: Global, tbox: &TBox) -> Result<NormalTBox, NoMemory>
     let inclusions = replaced(alloc, tbox)?;
     let concepts = concepts_below(alloc, &inclusions)?;
     let props = props_below(alloc, &inclusions)?;
+    let chiefs = name_chiefs(alloc, &inclusions)?;
     Ok(NormalTBox {
         inclusions,
         concepts,
         props,
+        chiefs,
     })
 }
 
@@ -123,6 +130,15 @@ impl NormalTBox {
     {
         basic_laws();
         self.concepts.get(basic)
+    }
+
+    /// Whether a list of inclusions leads from the name of one atom to that of the other, each with a name of the one before it.
+    /// Where it does not, no member of `Down` of the one has the name of a member of `Down` of the other. It takes no memory.
+    pub fn are_linked(&self, first: Atom, second: Atom) -> bool
+        ensures { (result ≡ true) ↔ AreLinked self.now first second }
+    {
+        basic_laws();
+        self.chiefs.chief(atom_name(first)) == self.chiefs.chief(atom_name(second))
     }
 
     // The properties from which an inclusion leads to one.

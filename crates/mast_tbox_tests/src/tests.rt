@@ -139,6 +139,14 @@ fn what_is_below_an_atom(rt: HostRuntime) -> Result<(), Fail> {
         normal.below(Basic::Class(Name(2))),
         [Basic::Some(RoleExpr::Inverse(Name(AUXILIARY)))].as_slice()
     );
+    let linked = [(class(2, X), class(1, X)), (role(1, X, Y), class(0, X))];
+    for (first, second) in linked {
+        assert!(&rt; normal.are_linked(first, second));
+    }
+    for atom in [class(3, X), role(2, X, Y)] {
+        assert!(&rt; normal.are_linked(atom, atom));
+        assert!(&rt; !normal.are_linked(atom, class(0, X)));
+    }
     Ok(())
 }
 

@@ -3,12 +3,7 @@ use Rattle.std.specs.Prelude.{◌≡◌, List, [], Some, None, Bool, if◌then�
 use Rattle.indexmap.specs.IndexMap.{get}
 use Rattle.indexmap.specs.IndexSet.{insert_key, insert_all}
 use Rattle.mast_tbox.specs.declared.groups.Groups.{Groups}
-use Rattle.mast_tbox.specs.declared.expression.Basic.{Basic}
-use Rattle.mast_tbox.specs.declared.expression.Prop.{Prop}
-use Rattle.mast_tbox.specs.declared.axiom.Inclusion.{Inclusion}
-use Rattle.mast_tbox.specs.Expressions.{same_basic, same_prop}
-use Rattle.mast_tbox.specs.Inclusions.{firsts, directly_below}
-use Rattle.mast_tbox.specs.inside.StepLists.{leading_to}
+use Rattle.mast_tbox.specs.Inclusions.{firsts}
 
 module _ {T : Type 0} (eq : T → T → Bool) where
   -- the items of a key
@@ -26,8 +21,3 @@ module _ {T : Type 0} (eq : T → T → Bool) where
   -- the items that pairs have for each key were added
   abbrev pub AreGrown : Groups T → List (T × T) → Groups T → Type 0
   AreGrown old ps new = (k : T) → found new k ≡ grown old ps k
-
--- the groups are the indices of inclusions by their right sides
-pub record IsIndex (tbox : List Inclusion) (concepts : Groups Basic) (props : Groups Prop) : Type 0 where
-  pub concepts_below : (b : Basic) → found same_basic concepts b ≡ directly_below tbox b
-  pub props_below : (p : Prop) → found same_prop props p ≡ leading_to tbox p
