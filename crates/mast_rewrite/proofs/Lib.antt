@@ -29,6 +29,7 @@ pub mod OutsideLemmas
 pub mod WalkLemmas
 pub mod WayLemmas
 pub mod MemberStepLemmas
+pub mod ApartLemmas
 pub mod MemoLemmas
 pub mod DistinctLemmas
 pub mod EndLemmas

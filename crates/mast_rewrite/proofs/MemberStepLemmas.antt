@@ -3,7 +3,6 @@ use Rattle.std.proofs.Common.{◌≡◌, ℕ, zero, suc, ◌+◌, ◌<◌, ◌�
 use Rattle.std.proofs.lemmas.List.{take-append-drop}
 use Rattle.std.proofs.lemmas.List.Elements.{Contains-append_left}
 use native.Mathlib.Decide.{dec_lt}
-use Rattle.indexmap.specs.IndexMap.{values}
 use Rattle.mast_cq.specs.declared.atom.Arg.{Arg}
 use Rattle.mast_cq.specs.declared.atom.Atom.{Atom}
 use Rattle.mast_cq.specs.declared.query.Cq.{Cq}
@@ -14,7 +13,6 @@ use Rattle.mast_cq.specs.Steps.{stepped}
 use Rattle.mast_tbox.specs.declared.axiom.Inclusion.{Inclusion}
 use Rattle.mast_tbox.proofs.MemberLemmas.{none, map_in, map_out}
 use Rattle.mast_tbox.proofs.WorkLemmas.{before_end}
-use Rattle.mast_rewrite.specs.declared.memo.Memo.{Memo}
 use Rattle.mast_rewrite.specs.declared.pair.Marked.{Marked}
 use Rattle.mast_rewrite.specs.declared.pair.Pair.{Pair}
 use Rattle.mast_rewrite.specs.Closures.{ClosureStep}
@@ -22,7 +20,6 @@ use Rattle.mast_rewrite.specs.CountingMeetings.{Counts}
 use Rattle.mast_rewrite.specs.inside.Growing.{Within, Grown, IsAfter, StepsAt, StepsBefore, StepsBelow}
 use Rattle.mast_rewrite.specs.inside.Leaders.{CountsExactly}
 use Rattle.mast_rewrite.specs.inside.Marks.{marked_of, pair_of, query_of}
-use Rattle.mast_rewrite.specs.inside.Memos.{IsPlaceOf}
 use Rattle.mast_rewrite.specs.inside.MeetingLists.{met_value}
 use Rattle.mast_rewrite.proofs.GrowLemmas.{grown_none, grown_join, within_join, grown_as, take_or, take_before, take_last}
 use Rattle.mast_rewrite.proofs.MarkLemmas.{counts_marked}
@@ -218,11 +215,3 @@ marked_steps tbox q marked first second d e p list m l k a b exact r =
     let g = marked_at q.answer q.atoms marked first d m l in
     let h = marked_at q.answer q.atoms marked second e m k in
     after_steps tbox q first second g.0 h.0 list g.1 h.1 (subst (λ v. CountsExactly tbox v list) (ap₂ (λ x y. record { left = x; right = y }) (a ∙ g.2) (b ∙ h.2)) exact) r
-
--- and so do those that stand at a place
-pub place_steps : (tbox : List Inclusion) (q : Cq) (marked : List Marked) (first second : ℕ) (d e : Marked) (p : Pair) (memo : Memo) (place : ℕ) (list : List Met) → marked ≡ map (marked_of q.answer) q.atoms
-    → first < length marked → second < length marked → p.left ≡ slice_index_or marked first d → p.right ≡ slice_index_or marked second e → IsPlaceOf tbox memo p place
-    → ((found : List Met) → slice_get (values memo.meetings) place ≡ Some found → list ≡ found)
-    → (r : Cq) → IsAfter q first second list r ↔ StepsAt tbox q first second r
-place_steps tbox q marked first second d e p memo place list m l k a b w f =
-    marked_steps tbox q marked first second d e p list m l k a b (subst (CountsExactly tbox p) (sym (f w.0 w.1)) w.2)

@@ -39,33 +39,6 @@ module _ (eq : Atom → Atom → Bool) (same : (x y : Atom) → eq x y ≡ true 
     ],
   )
 
-  -- one atom more of a list was inserted
-  pub insert_next : (old keys new list : List Atom) (i : ℕ) (d : Atom) → i < length list → new ≡ insert_key eq keys (slice_index_or list i d)
-      → ((h : Atom) → Contains keys h ↔ (Contains old h ⊎ Contains (take i list) h)) → (h : Atom) → Contains new h ↔ (Contains old h ⊎ Contains (take (i + 1) list) h)
-  insert_next old keys new list i d l e k h = subst (λ v. Contains v h ↔ (Contains old h ⊎ Contains (take (i + 1) list) h)) (sym e) (
-    λ c. elim ((insert_iff keys (slice_index_or list i d) h).0 c) [
-      | inl j ↦ elim ((k h).0 j) [ inl o ↦ inl o | inr t ↦ inr (take_before list i d h l t) ]
-      | inr f ↦ inr (rw f (take_last list i d l))
-    ],
-    λ s. (insert_iff keys (slice_index_or list i d) h).1 (elim s [
-      | inl o ↦ inl ((k h).1 (inl o))
-      | inr t ↦ elim (take_or list i d h l t) [ inl j ↦ inl ((k h).1 (inr j)) | inr f ↦ inr f ]
-    ]),
-  )
-
--- before any was inserted
-pub insert_begin : (old list : List Atom) (h : Atom) → Contains old h ↔ (Contains old h ⊎ Contains (take 0 list) h)
-insert_begin old list h = (λ c. inl c, λ s. elim s [ inl c ↦ c | inr t ↦ absurd (none h t) ])
-
--- after all that is below an atom was inserted
-pub insert_end : (tbox : List Inclusion) (g : Atom) (old keys list : List Atom) (i : ℕ) → length list ≤ i → ((h : Atom) → Contains list h ↔ Down tbox g h)
-    → ((h : Atom) → Contains keys h ↔ (Contains old h ⊎ Contains (take i list) h)) → IsWidened tbox g old keys
-insert_end tbox g old keys list i l e k h =
-    let f = take_full list i l in (
-      λ c. elim ((k h).0 c) [ inl o ↦ inl o | inr t ↦ inr ((e h).0 (subst (λ v. Contains v h) f t)) ],
-      λ s. (k h).1 (elim s [ inl o ↦ inl o | inr t ↦ inr (subst (λ v. Contains v h) (sym f) ((e h).1 t)) ]),
-    )
-
 module _ (tbox : List Inclusion) (atoms : List Atom) where
   -- nothing is led before the first
   pub led_begin : (keys : List Atom) → ((h : Atom) → Contains keys h → ⊥) → (h : Atom) → Contains keys h ↔ LedBy tbox (take 0 atoms) h

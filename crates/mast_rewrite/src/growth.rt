@@ -131,7 +131,7 @@ fn grow_at<'a>(
             left: marked[first],
             right: marked[second],
         };
-        let place = memo.place(alloc, normal, pair)?;
+        let place = memo.linked(alloc, normal, pair)?;
         add_steps(alloc, arena, set, query, first, second, memo.at(place))?;
     }
     Ok(())

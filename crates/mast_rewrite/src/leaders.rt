@@ -3,8 +3,8 @@ ghost use Rattle.std.specs.Prelude.{◌↔◌, [], Contains, IfOk, OnOk};
 ghost use Rattle.mast_cq.specs.NormalForms.{Ordered};
 ghost use Rattle.mast_cq.specs.declared.atom.Atom.{Atom};
 ghost use Rattle.mast_rewrite.specs.inside.Leaders.{IsSwept, LeaderOf, Sweeps};
+ghost use Rattle.mast_tbox.specs.Laws.{IsClosed};
 
-use crate::below::add_below;
 use indexmap::IndexSet;
 use mast_cq::{Atom, atom_laws};
 use mast_tbox::NormalTBox;
@@ -36,25 +36,26 @@ fn unled(alloc: Global, normal: &NormalTBox, atoms: &[Atom]) -> Result<Vec<Atom>
     let mut below = IndexSet::new(alloc);
     let mut unled = Vec::new(alloc);
     for atom in atoms {
-        sweep_over(alloc, normal, *atom, &mut below, &mut unled)?;
+        sweep_over(normal, *atom, &mut below, &mut unled)?;
     }
     Ok(unled)
 }
 
 // Passes over an atom that is below one before it, and keeps any other.
 fn sweep_over(
-    alloc: Global,
     normal: &NormalTBox,
     atom: Atom,
     below: &mut IndexSet<Atom>,
     unled: &mut Vec<Atom>,
 ) -> Result<(), NoMemory>
-    ensures { OnOk result (IsSwept normal.now atom below.old.keys below.new.keys unled.old.items unled.new.items) }
+    requires { IsClosed normal.now (Contains below.old.keys) }
+    ensures swept { OnOk result (IsSwept normal.now atom below.old.keys below.new.keys unled.old.items unled.new.items) }
+    ensures closed { OnOk result (IsClosed normal.now (Contains below.new.keys)) }
 {
     atom_laws();
     if below.contains(&atom) {
         return Ok(());
     }
     unled.push(atom)?;
-    add_below(alloc, normal, below, atom)
+    normal.add_down(below, atom)
 }

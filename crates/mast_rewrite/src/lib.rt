@@ -4,7 +4,6 @@
 //! It must not know of rows, mappings and sources, nor how queries are read or answers found.
 #![tactic(auto)]
 
-mod below;
 mod counting;
 mod growth;
 mod laws;

@@ -6,7 +6,8 @@ ghost use Rattle.mast_cq.specs.declared.atom.Atom.{Atom};
 ghost use Rattle.mast_cq.specs.declared.unifier.Met.{Met};
 ghost use Rattle.mast_tbox.specs.declared.axiom.Inclusion.{Inclusion};
 ghost use Rattle.mast_rewrite.specs.inside.Leaders.{IsDownList, CountsExactly};
-ghost use Rattle.mast_rewrite.specs.inside.Memos.{IsMemo, IsPlaceOf};
+ghost use Rattle.mast_rewrite.specs.inside.Memos.{IsMemo, IsPlaceOf, HasPlace};
+ghost use Rattle.mast_rewrite.specs.declared.pair.Pair.{Pair};
 
 use crate::counting::counting;
 use crate::meetings::meetings;
@@ -34,13 +35,8 @@ impl Memo {
         }
     }
 
-    /// The place of the meetings of a pair that count. They are made where they are not there yet.
-    pub(crate) fn place(
-        &mut self,
-        alloc: Global,
-        normal: &NormalTBox,
-        pair: Pair,
-    ) -> Result<usize, NoMemory>
+    // The place of the meetings of a pair that count. They are made where they are not there yet.
+    fn place(&mut self, alloc: Global, normal: &NormalTBox, pair: Pair) -> Result<usize, NoMemory>
         requires { IsMemo normal.now self.old }
         ensures place { IfOk result (IsPlaceOf normal.now self.new pair) }
         ensures memo { OnOk result (IsMemo normal.now self.new) }
@@ -53,6 +49,24 @@ impl Memo {
             Some(place) => Ok(place),
             None => Err(NoMemory),
         }
+    }
+
+    /// The place of the meetings of a pair that count; None where inclusions do not link the names of its atoms, so that there are none.
+    pub(crate) fn linked(
+        &mut self,
+        alloc: Global,
+        normal: &NormalTBox,
+        pair: Pair,
+    ) -> Result<Option<usize>, NoMemory>
+        requires { IsMemo normal.now self.old }
+        ensures place { IfOk result (HasPlace normal.now self.new pair) }
+        ensures memo { OnOk result (IsMemo normal.now self.new) }
+    {
+        if !normal.are_linked(pair.left.atom, pair.right.atom) {
+            return Ok(None);
+        }
+        let place = self.place(alloc, normal, pair)?;
+        Ok(Some(place))
     }
 
     // Makes the meetings of a pair.
@@ -74,8 +88,17 @@ impl Memo {
         self.meetings.get_index_of(&pair)
     }
 
-    /// The meetings at a place.
-    pub(crate) fn at(&self, place: usize) -> &[Met]
+    /// The meetings at a place; none at no place.
+    pub(crate) fn at(&self, place: Option<usize>) -> &[Met]
+        ensures { (tbox : List Inclusion) (pair : Pair) → HasPlace tbox self.now pair place → CountsExactly tbox pair result.now }
+    {
+        match place {
+            Some(place) => self.stored(place),
+            None => &[],
+        }
+    }
+
+    fn stored(&self, place: usize) -> &[Met]
         ensures { (list : List Met) → slice_get (values self.now.meetings) place ≡ Some list → result.now ≡ list }
     {
         match self.meetings.get_index(place) {

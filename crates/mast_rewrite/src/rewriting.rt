@@ -49,10 +49,12 @@ impl<'a> Rewriting<'a> {
 }
 
 /// The closure of a query, each member once: its normal form, and what steps lead to. A step takes two atoms of a query and a
-/// meeting of them that counts, and then the normal form. Each member is a pair of slices in the arena, and the arena has no
-/// other. TooMany comes exactly where the closure has more than 200,000 members.
+/// meeting of them that counts, and then the normal form. TooMany comes exactly where the closure has more than 200,000
+/// members.
 ///
-/// What is below an atom and the meetings of two atoms are made once, so time and memory grow like the members.
+/// Each member is a pair of slices in the arena. Nothing else is placed there, which no clause says. What is below an atom and
+/// the meetings of two atoms are made once, and atoms whose names no inclusions link are passed over, so time and memory grow
+/// like the members.
 pub fn perfect_ref<'a>(
     alloc: Global,
     arena: &'a Bump,

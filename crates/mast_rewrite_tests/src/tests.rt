@@ -1,5 +1,5 @@
 //! Worked closures: that the call succeeds, and that the definitions give the members of worked queries.
-ghost use Rattle.std.specs.Prelude.{◌≡◌, ◌≤◌, length, map, IfOk};
+ghost use Rattle.std.specs.Prelude.{◌≡◌, ◌≤◌, ◌<◌, length, map, IfOk};
 ghost use Rattle.mast_tbox.specs.Numbers.{IsNumbered};
 ghost use Rattle.mast_rewrite_tests.specs.Lines.{on_one_line};
 
@@ -7,7 +7,7 @@ use bumpalo::Bump;
 use mast_cq::{Arg, Atom, CqRef};
 use mast_rewrite::perfect_ref;
 use mast_tbox::{Basic, Inclusion, Lined, RoleExpr, TBox, normal};
-use mast_terms::{List, Name, NoMemory};
+use mast_terms::{List, Name, NoMemory, Stop};
 use std::alloc::Global;
 use std::process::Abort;
 use std::test::Fail;
@@ -243,13 +243,14 @@ fn different_constants_stay_apart(rt: HostRuntime) -> Result<(), Fail> {
 }
 
 // Classes below two classes, each below one of them.
-fn hierarchies(alloc: Global) -> Result<Vec<Inclusion>, NoMemory>
+fn hierarchies(alloc: Global, first: u32, end: u32) -> Result<Vec<Inclusion>, NoMemory>
+    requires { end ≤ 1000 }
     ensures numbered { IfOk result (λ v. IsNumbered (on_one_line v.items)) }
     ensures few { IfOk result (λ v. length v.items ≤ 1000) }
 {
     let mut below = Vec::new(alloc);
-    for name in 2..901 {
-        let sup = if name < 501 { A } else { B };
+    for name in 2..end {
+        let sup = if name < first { A } else { B };
         below.push(Inclusion::Class {
             sub: Basic::Class(Name(name)),
             sup,
@@ -258,15 +259,107 @@ fn hierarchies(alloc: Global) -> Result<Vec<Inclusion>, NoMemory>
     Ok(below)
 }
 
+// What is below the two classes are 500 and 400 classes, and 489 and 409.
 #[test]
 fn two_wide_hierarchies(rt: HostRuntime) -> Result<(), Fail> {
     let alloc = rt.alloc();
-    let tbox = tbox_of(alloc, &hierarchies(alloc)?)?;
     let query = CqRef {
         answer: &[X],
         atoms: &[class(0, X), class(1, X)],
     };
-    has_members(&rt, alloc, &tbox, query, &[query])
+    let wide = tbox_of(alloc, &hierarchies(alloc, 501, 900)?)?;
+    has_members(&rt, alloc, &wide, query, &[query])?;
+    let wider = tbox_of(alloc, &hierarchies(alloc, 490, 898)?)?;
+    has_members(&rt, alloc, &wider, query, &[query])
+}
+
+// Three attributes below each of six.
+fn attributes(alloc: Global) -> Result<Vec<Inclusion>, NoMemory>
+    ensures numbered { IfOk result (λ v. IsNumbered (on_one_line v.items)) }
+    ensures few { IfOk result (λ v. length v.items ≤ 1000) }
+{
+    let mut below = Vec::new(alloc);
+    for name in 6..24 {
+        below.push(Inclusion::Attr {
+            sub: Name(name),
+            sup: Name((name - 6) / 3),
+        })?;
+    }
+    Ok(below)
+}
+
+// Adds an atom with an attribute, whose subject is an answer.
+fn add(
+    answer: &mut Vec<Arg>,
+    atoms: &mut Vec<Atom>,
+    name: u32,
+    subject: u32,
+    value: Arg,
+) -> Result<(), NoMemory> {
+    answer.push(Arg::Var(subject))?;
+    atoms.push(attr(name, Arg::Var(subject), value))?;
+    Ok(())
+}
+
+// Adds a group of four atoms with one attribute, where two have different constants as values: it has ten forms.
+fn add_group(answer: &mut Vec<Arg>, atoms: &mut Vec<Atom>, name: u32) -> Result<(), NoMemory>
+    requires { name < 6 }
+{
+    let first = 6 * name;
+    add(answer, atoms, name, first, ONE)?;
+    add(answer, atoms, name, first + 1, TWO)?;
+    add(answer, atoms, name, first + 2, Arg::Var(first + 4))?;
+    add(answer, atoms, name, first + 3, Arg::Var(first + 5))
+}
+
+// Five groups, and these subjects and values of one more attribute. The closure is as large as it may be, or larger.
+fn folded(
+    rt: &impl Abort,
+    alloc: Global,
+    values: &[(u32, Arg)],
+    is_small: bool,
+) -> Result<(), Fail> {
+    let tbox = tbox_of(alloc, &attributes(alloc)?)?;
+    let mut answer = Vec::new(alloc);
+    let mut atoms = Vec::new(alloc);
+    for name in 0..5 {
+        add_group(&mut answer, &mut atoms, name)?;
+    }
+    for (subject, value) in values {
+        add(&mut answer, &mut atoms, 5, *subject, *value)?;
+    }
+    let query = CqRef {
+        answer: &answer,
+        atoms: &atoms,
+    };
+    if is_small {
+        has_count(rt, alloc, &tbox, query, 200_000)
+    } else {
+        is_refused(rt, alloc, &tbox, query)
+    }
+}
+
+// Asks that the closure of a query has too many members.
+fn is_refused(rt: &impl Abort, alloc: Global, tbox: &TBox, query: CqRef) -> Result<(), Fail> {
+    let normal = normal(alloc, tbox)?;
+    let arena = Bump::new(alloc);
+    match perfect_ref(alloc, &arena, &normal, query) {
+        Err(Stop::Named(refusal)) => assert_eq!(rt; refusal.count, 200_001),
+        _ => assert!(rt; false),
+    }
+    Ok(())
+}
+
+#[test]
+fn folded_groups(rt: HostRuntime) -> Result<(), Fail> {
+    let alloc = rt.alloc();
+    folded(&rt, alloc, &[(30, Arg::Var(33)), (31, Arg::Var(34))], true)?;
+    folded(
+        &rt,
+        alloc,
+        &[(30, ONE), (31, TWO), (32, Arg::Var(33))],
+        false,
+    )
 }
 
 // What is in a class has a filler in it by each of 24 roles.

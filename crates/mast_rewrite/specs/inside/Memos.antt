@@ -1,5 +1,5 @@
 -- What is kept of atoms and of pairs of them.
-use Rattle.std.specs.Prelude.{◌≡◌, ℕ, List, Contains, Some, slice_get}
+use Rattle.std.specs.Prelude.{◌≡◌, ℕ, List, [], Contains, Option, Some, None, slice_get}
 use Rattle.indexmap.specs.IndexMap.{values}
 use Rattle.mast_cq.specs.declared.atom.Atom.{Atom}
 use Rattle.mast_cq.specs.declared.unifier.Met.{Met}
@@ -16,3 +16,8 @@ pub record IsMemo (tbox : List Inclusion) (memo : Memo) : Type 0 where
 -- at the place is a list with exactly the meetings of the pair that count
 abbrev pub IsPlaceOf : List Inclusion → Memo → Pair → ℕ → Type 0
 IsPlaceOf tbox memo p place = (list : List Met) × (slice_get (values memo.meetings) place ≡ Some list) × CountsExactly tbox p list
+
+-- the meetings of the pair that count are those at the place; where there is no place none counts
+abbrev pub HasPlace : List Inclusion → Memo → Pair → Option ℕ → Type 0
+HasPlace tbox memo p None = CountsExactly tbox p []
+HasPlace tbox memo p (Some place) = IsPlaceOf tbox memo p place

@@ -1,7 +1,7 @@
 use Rattle.std.proofs.Common.{map, refl, arith}
 use Rattle.mast_cq.specs.Queries.{viewed}
 use Rattle.mast_rewrite.specs.inside.Growing.{IsAfter}
-use Rattle.mast_rewrite.proofs.MemberStepLemmas.{before_begin, before_next, before_within, before_over, place_steps}
+use Rattle.mast_rewrite.proofs.MemberStepLemmas.{before_begin, before_next, before_within, before_over, marked_steps}
 use Rattle.mast_rewrite.proofs.growth.grow_at.Goals as goal
 
 pub loop-first-init : goal.loop-first-init
@@ -15,8 +15,8 @@ pub loop-first-preserved : goal.loop-first-preserved
 loop-first-preserved c = record {
   grown = before_next c.args.normal.now (viewed c.args.query) c.args.second c.loop-first.first (map viewed c.args.set.now.keys) (map viewed c.loop-first.set.keys) (map viewed c.add_steps.new.set.keys)
       (IsAfter (viewed c.args.query) c.loop-first.first c.args.second c.at.result.now)
-      (place_steps c.args.normal.now (viewed c.args.query) c.args.marked.now c.loop-first.first c.args.second _ _ _ c.place.new.self c.in_ok-place.place c.at.result.now c.requires.marked (omega arith) c.requires.there refl refl
-      c.in_ok-place.ensures.place c.at.ensures)
+      (marked_steps c.args.normal.now (viewed c.args.query) c.args.marked.now c.loop-first.first c.args.second _ _ _ c.at.result.now c.requires.marked (omega arith) c.requires.there refl refl
+      (c.at.ensures c.args.normal.now _ c.in_ok-place.ensures.place))
       c.loop-first.invariant.grown c.in_ok-add_steps.ensures.grown;
   small = c.in_ok-add_steps.ensures.small;
   memo = c.in_ok-place.ensures.memo;
@@ -30,8 +30,8 @@ pub returns-in_err-add_steps-clause-within : goal.returns-in_err-add_steps-claus
 returns-in_err-add_steps-clause-within c =
     before_over c.args.normal.now (viewed c.args.query) c.args.second c.loop-first.first c.args.second (map viewed c.args.set.now.keys) (map viewed c.loop-first.set.keys) (map viewed c.add_steps.new.set.keys)
     (IsAfter (viewed c.args.query) c.loop-first.first c.args.second c.at.result.now) (omega arith)
-    (place_steps c.args.normal.now (viewed c.args.query) c.args.marked.now c.loop-first.first c.args.second _ _ _ c.place.new.self c.in_ok-place.place c.at.result.now c.requires.marked (omega arith) c.requires.there refl refl
-    c.in_ok-place.ensures.place c.at.ensures)
+    (marked_steps c.args.normal.now (viewed c.args.query) c.args.marked.now c.loop-first.first c.args.second _ _ _ c.at.result.now c.requires.marked (omega arith) c.requires.there refl refl
+    (c.at.ensures c.args.normal.now _ c.in_ok-place.ensures.place))
     c.loop-first.invariant.grown c.add_steps.ensures.within
 
 pub returns-clause-within : goal.returns-clause-within

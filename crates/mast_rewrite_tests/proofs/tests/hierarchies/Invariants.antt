@@ -1,5 +1,5 @@
 -- What the loop keeps.
-use Rattle.std.proofs.Common.{◌≡◌, ◌+◌, [], length}
+use Rattle.std.proofs.Common.{◌≡◌, ◌≤◌, ◌+◌, [], length}
 use Rattle.mast_tbox.specs.Numbers.{numbers}
 use Rattle.mast_rewrite_tests.specs.Lines.{on_one_line}
 use Rattle.mast_rewrite_tests.proofs.tests.hierarchies.Given as goal
@@ -8,4 +8,5 @@ abbrev pub invariant-loop-name : goal.invariant-loop-name
 invariant-loop-name l = record {
   plain : numbers (on_one_line l.below.items) ≡ [];
   count : length l.below.items + 2 ≡ l.name;
+  few : length l.below.items ≤ 1000;
 }
