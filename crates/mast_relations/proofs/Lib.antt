@@ -4,6 +4,7 @@ pub mod IndexLemmas
 pub mod JoinLemmas
 pub mod LastLemmas
 pub mod ListLemmas
+pub mod LookupLemmas
 pub mod MatchLemmas
 pub mod PlanningLemmas
 pub mod RowSetLemmas

@@ -1,3 +1,4 @@
+pub mod Lookups
 pub mod Matches
 pub mod Plans
 pub mod Slices

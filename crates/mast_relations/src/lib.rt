@@ -7,6 +7,7 @@
 mod hashes;
 mod join;
 mod laws;
+mod lookup;
 mod order;
 mod plan;
 mod planning;

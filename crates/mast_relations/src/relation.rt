@@ -40,7 +40,7 @@ impl Model for Relation {
 }
 
 // Whether a row has at some columns what values have at some places.
-fn agree(row: &[u32], columns: &[usize], values: &[u32], places: &[usize]) -> bool
+pub(crate) fn agree(row: &[u32], columns: &[usize], values: &[u32], places: &[usize]) -> bool
     requires columns { AreBelow (length row.now) columns.now }
     requires places { AreBelow (length values.now) places.now }
     requires long { length columns.now ≡ length places.now }
@@ -100,7 +100,7 @@ impl Relation {
     }
 
     // The number of the index by these columns, if there is one.
-    fn position(&self, columns: &[usize]) -> Option<usize>
+    pub(crate) fn position(&self, columns: &[usize]) -> Option<usize>
         ensures { IfSome result (IsIndexAt self.now columns.now) }
     {
         for (at, index) in self.indices.iter().enumerate() {
