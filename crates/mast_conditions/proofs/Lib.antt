@@ -1,0 +1,4 @@
+pub mod CollectLemmas
+pub mod LinkLemmas
+pub mod RowLemmas
+pub mod TruthLemmas

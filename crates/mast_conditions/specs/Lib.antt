@@ -1,0 +1,4 @@
+pub mod Choices
+pub mod Spans
+pub mod Truth
+pub mod inside

@@ -1,0 +1,2 @@
+-- What private functions alone cite: equalities, and what they tie to each other.
+pub mod Links
