@@ -13,7 +13,7 @@ use Rattle.mast_sparsql.proofs.LexingLemmas.{tokens_size}
 use Rattle.mast_sparsql.proofs.TerminalLemmas.{terminals_size}
 
 -- terminals that the reader holds in a slice
-same_terminals : (source : List ℕ) (tokens held : List SqlToken) (ks seen : List Terminal) → held ≡ tokens → ks ≡ terminals source held → seen ≡ ks → seen ≡ terminals source tokens
+pub same_terminals : (source : List ℕ) (tokens held : List SqlToken) (ks seen : List Terminal) → held ≡ tokens → ks ≡ terminals source held → seen ≡ ks → seen ≡ terminals source tokens
 same_terminals source tokens held ks seen h k s = s ∙ (k ∙ ap (λ x. terminals source x) h)
 
 -- there are fewer than bytes

@@ -1,2 +1,4 @@
 -- What private functions alone cite.
+pub mod Cursors
 pub mod Lines
+pub mod Parts

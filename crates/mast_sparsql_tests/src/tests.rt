@@ -1,5 +1,5 @@
 //! Tests of mast_sparsql, of what no clause says: that calls succeed, and that the definitions give the answers of worked files.
-use mast_sparsql::{QueryBreach, file_tokens, query_tokens};
+use mast_sparsql::{QueryBreach, file_tokens, query_tokens, query_tree};
 use mast_sql::SqlLex;
 use mast_terms::Stop;
 use std::alloc::{AllocError, Global};
@@ -31,6 +31,23 @@ fn judged(alloc: Global, source: &[u8]) -> Result<String, AllocError> {
     match query_tokens(alloc, source) {
         Ok(tokens) => {
             let size = tokens.as_slice().len();
+            write!(text, "{size}")?;
+        }
+        Err(Stop::Named(QueryBreach { token, kind })) => write!(text, "{token} {kind:?}")?,
+        Err(Stop::NoMemory) => text.push_str("no memory")?,
+    }
+    Ok(text)
+}
+
+// The number of tokens of a tree, or the first breach of the first two passes.
+fn read(alloc: Global, source: &[u8]) -> Result<String, AllocError> {
+    let mut text = String::new(alloc);
+    if source.len() >= 4294967295 {
+        return Ok(text);
+    }
+    match query_tree(alloc, source) {
+        Ok(read) => {
+            let size = read.0.as_slice().len();
             write!(text, "{size}")?;
         }
         Err(Stop::Named(QueryBreach { token, kind })) => write!(text, "{token} {kind:?}")?,
@@ -79,6 +96,19 @@ static QUERIES: [(&str, &str); 14] = [
     ("SELECT x ? \u{e4}", "2 Lex"),
 ];
 
+// Each form of the grammar, and parentheses as deep as they go.
+static FORMS: [&str; 9] = [
+    "SELECT a FROM sparqltable(SELECT ?a {?a a <h:A>}) t",
+    "SELECT DISTINCT t.a AS b, a FROM sparqltable(SELECT DISTINCT ?a ?b WHERE {?a <h:p> ?b, 1, \"x\"^^<h:t> ; a <h:A>, <h:B> . ?b <h:q> \"y\" .}) AS t, sparqltable(SELECT ?a {?a a <h:A>}) t;",
+    "SELECT a FROM sparqltable(SELECT ?a {{?a a <h:A>} UNION {?a a <h:B> .}}) t",
+    "SELECT a FROM sparqltable(SELECT ?a {{?a a <h:A>}}) t WHERE a = 1",
+    "SELECT a FROM sparqltable(SELECT ?a {?a a <h:A>}) t WHERE NOT NOT a = f('x', 3, DATE '2020-01-01') AND g() <> t.a OR a != 'y' AND NOT (5 = a OR a = a)",
+    "SELECT a FROM sparqltable(SELECT ?a {?a a <h:A>}) t WHERE NOT EXISTS (SELECT a FROM sparqltable(SELECT ?a {?a a <h:A>}) t UNION (SELECT a FROM sparqltable(SELECT ?a {?a a <h:A>}) t)) OR a = 1",
+    "SELECT a FROM sparqltable(SELECT ?a {?a a <h:A>}) t INTERSECT SELECT a FROM sparqltable(SELECT ?a {?a a <h:A>}) t UNION SELECT a FROM sparqltable(SELECT ?a {?a a <h:A>}) t EXCEPT (SELECT a FROM sparqltable(SELECT ?a {?a a <h:A>}) t) INTERSECT SELECT a FROM sparqltable(SELECT ?a {?a a <h:A>}) t",
+    "PREFIX a: <h:a> PREFIX : <h:b> (((((((((((((((SELECT a FROM sparqltable(SELECT ?a {?a a <h:A>}) t WHERE (a = 1))))))))))))))));",
+    "SELECT a FROM sparqltable(SELECT ?a {?a a <h:A>}) t WHERE ((((((((((((((((a = 1))))))))))))))))",
+];
+
 #[test]
 fn first_lexical_breaches_of_files(rt: HostRuntime) -> Result<(), Fail> {
     let alloc = rt.alloc();
@@ -96,6 +126,31 @@ fn first_breaches_of_two_passes(rt: HostRuntime) -> Result<(), Fail> {
             judged(alloc, source.as_bytes())?.as_str(),
             *want,
             "{source:?}"
+        );
+    }
+    Ok(())
+}
+
+#[test]
+fn what_passes_the_grammar_has_a_tree(rt: HostRuntime) -> Result<(), Fail> {
+    let alloc = rt.alloc();
+    for (source, want) in &QUERIES {
+        assert_eq!(rt;
+            read(alloc, source.as_bytes())?.as_str(),
+            *want,
+            "{source:?}"
+        );
+    }
+    for source in &FORMS {
+        let tokens = read(alloc, source.as_bytes())?;
+        assert_eq!(rt;
+            tokens.as_str(),
+            judged(alloc, source.as_bytes())?.as_str(),
+            "{source:?}"
+        );
+        assert!(rt;
+            tokens.as_str().bytes().all(|b| b.is_ascii_digit()),
+            "{source:?} {tokens}"
         );
     }
     Ok(())

@@ -1,0 +1,9 @@
+use Rattle.mast_grammar.specs.declared.terminal.Terminal.TheVariants as terminal
+use Rattle.mast_sparsql.specs.Trees as tree
+use Rattle.mast_sparsql.proofs.CursorLemmas.{list_next}
+use Rattle.mast_sparsql.proofs.cursor.Cursor.objects.Goals as goal
+
+pub loop-preserved : goal.loop-preserved
+loop-preserved c =
+    list_next c.args.self.now c.loop.self c.word.new.self c.object-in-loop.new.self terminal.Comma tree.object_written c.loop.objects c.push-in-loop.new.self c.in_ok-next.next
+    c.loop.invariant c.in_ok-word.ensures c.in_ok-next.ensures c.in_ok-push-2.ensures.ok

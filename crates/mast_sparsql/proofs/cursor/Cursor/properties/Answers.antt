@@ -1,0 +1,9 @@
+use Rattle.mast_grammar.specs.declared.terminal.Terminal.TheVariants as terminal
+use Rattle.mast_sparsql.specs.Trees as tree
+use Rattle.mast_sparsql.proofs.CursorLemmas.{each_next}
+use Rattle.mast_sparsql.proofs.cursor.Cursor.properties.Goals as goal
+
+pub loop-preserved : goal.loop-preserved
+loop-preserved c =
+    each_next c.args.self.now c.loop.self c.word.new.self c.property-in-loop.new.self terminal.Semicolon tree.property_written tree.property_stands c.loop.properties c.push-in-loop.new.self c.in_ok-next.next
+    c.loop.invariant c.in_ok-word.ensures c.in_ok-next.ensures.reads c.in_ok-next.ensures.stands c.in_ok-push-2.ensures.ok
