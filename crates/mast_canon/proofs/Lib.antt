@@ -10,6 +10,7 @@ mod Examples
 pub mod FactLemmas
 pub mod FactListLemmas
 pub mod FillerLemmas
+pub mod FittingLemmas
 pub mod FoundLemmas
 pub mod GrowthLemmas
 pub mod HoldsLemmas

@@ -9,14 +9,15 @@ ghost use Rattle.mast_onto.specs.Known.{HasNames};
 ghost use Rattle.mast_tree.specs.Growing.{Begins};
 ghost use Rattle.mast_tree.specs.Source.{AreTokens};
 
+use mast_canon::Spec;
 use mast_constr::read_constraints;
 use mast_mapping::{Map, Mappings, read_mappings};
 use mast_onto::read_ontology;
 use mast_tables::TableDecl;
-use mast_tbox::{Constraints, Ontology};
-use mast_terms::{List, NoMemory, Vocabulary};
+use mast_tbox::{Constraints, Ontology, RestrictionBreach};
+use mast_terms::{List, NoMemory, Stop, Vocabulary};
 use mast_tree::{Token, read_doc, tokens};
-use std::alloc::Global;
+use std::alloc::{AllocError, Global};
 
 // The tokens of a source.
 fn listed(alloc: Global, source: &[u8]) -> Result<List<Token>, NoMemory>
@@ -126,4 +127,24 @@ pub(crate) fn mappings_of(
         return Err(NoMemory);
     }
     Ok(mappings)
+}
+
+/// The document of a main node whose items begin on line 3.
+pub fn document(alloc: Global, word: &str, items: &str) -> Result<String, AllocError> {
+    format!(in alloc; "Prefix(:=<http://e/>)\n{word}(\n{items}\n)\n")
+}
+
+/// The specification of three documents, each read over the names of the one before, or its restriction breach.
+pub fn specification_of(
+    alloc: Global,
+    axioms: &str,
+    constraints: &str,
+    mappings: &str,
+) -> Result<Spec, Stop<RestrictionBreach>> {
+    let ontology = ontology_of(alloc, axioms.as_bytes())?;
+    let vocab = ontology.vocab.copy(alloc)?;
+    let constraints = constraints_of(alloc, constraints.as_bytes(), vocab)?;
+    let vocab = constraints.vocab.copy(alloc)?;
+    let mappings = mappings_of(alloc, mappings.as_bytes(), vocab)?;
+    Spec::new(alloc, ontology, constraints, mappings)
 }

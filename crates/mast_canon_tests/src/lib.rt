@@ -3,12 +3,12 @@
 //! That what their readers tell gives what `Spec::new` needs is proved in proofs/ReaderLemmas.antt.
 #![tactic(auto)]
 
-#[cfg(test)]
 mod documents;
 #[cfg(test)]
 mod tests;
 mod worlds;
 
+pub use documents::{document, specification_of};
 pub use worlds::{
     Everything, Members, facts_alone_have_a_model, kept_has_the_certain_answers, members_laws,
 };

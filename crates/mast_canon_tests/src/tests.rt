@@ -1,30 +1,10 @@
 //! Tests of specifications: what they have of their documents, and where documents are refused.
-use crate::documents::{constraints_of, mappings_of, ontology_of};
+use crate::documents::{document, mappings_of, specification_of};
 use mast_canon::Spec;
 use mast_tbox::RestrictionBreach;
 use mast_terms::{NameKind, NoMemory, Stop, Vocabulary};
 use std::alloc::{AllocError, Global};
 use std::test::Fail;
-
-// The document of a main node whose items begin on line 3.
-fn document(alloc: Global, word: &str, items: &str) -> Result<String, AllocError> {
-    format!(in alloc; "Prefix(:=<http://e/>)\n{word}(\n{items}\n)\n")
-}
-
-// The specification of three documents, each read over the names of the one before.
-fn made(
-    alloc: Global,
-    axioms: &str,
-    constraints: &str,
-    mappings: &str,
-) -> Result<Spec, Stop<RestrictionBreach>> {
-    let ontology = ontology_of(alloc, axioms.as_bytes())?;
-    let vocab = ontology.vocab.copy(alloc)?;
-    let constraints = constraints_of(alloc, constraints.as_bytes(), vocab)?;
-    let vocab = constraints.vocab.copy(alloc)?;
-    let mappings = mappings_of(alloc, mappings.as_bytes(), vocab)?;
-    Spec::new(alloc, ontology, constraints, mappings)
-}
 
 // The specification of a mapping document alone.
 fn facts_alone(alloc: Global, mappings: &str) -> Result<Spec, NoMemory> {
@@ -74,7 +54,7 @@ fn outcome(
     let mappings = document(alloc, "Mappings", mappings)?;
     told(
         alloc,
-        made(
+        specification_of(
             alloc,
             axioms.as_str(),
             constraints.as_str(),

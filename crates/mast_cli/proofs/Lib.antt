@@ -4,7 +4,6 @@ mod EventLemmas
 mod FactsLemmas
 mod FactsTextLemmas
 mod FirstEventLemmas
-mod FittingLemmas
 mod ListLemmas
 mod LoadingLemmas
 mod MapLemmas

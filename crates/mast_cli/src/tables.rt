@@ -80,7 +80,7 @@ fn judge_table<F: Files>(
 }
 
 // The table of a file's bytes, which leaves fewer rows.
-#[tactic(auto, using(crate::proofs::FittingLemmas::rows_few, crate::proofs::FittingLemmas::table_fits))]
+#[tactic(auto, using(mast_canon::proofs::FittingLemmas::rows_few, mast_canon::proofs::FittingLemmas::table_fits))]
 fn load_table(
     alloc: Global,
     decl: &TableDecl,

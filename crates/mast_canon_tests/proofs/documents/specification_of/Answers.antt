@@ -2,7 +2,7 @@
 use Rattle.std.proofs.Common.{subst}
 use Rattle.mast_tree.specs.Growing.{Begins}
 use Rattle.mast_canon_tests.proofs.ReaderLemmas.{read_are_one}
-use Rattle.mast_canon_tests.proofs.tests.made.Goals as goal
+use Rattle.mast_canon_tests.proofs.documents.specification_of.Goals as goal
 
 pub new-requires : goal.new-requires
 new-requires c =
