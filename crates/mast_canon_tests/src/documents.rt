@@ -108,11 +108,7 @@ fn few_tables(tables: &[TableDecl]) -> bool
 }
 
 /// The mappings of a source, over these names.
-pub(crate) fn mappings_of(
-    alloc: Global,
-    source: &[u8],
-    vocab: Vocabulary,
-) -> Result<Mappings, NoMemory>
+pub fn mappings_of(alloc: Global, source: &[u8], vocab: Vocabulary) -> Result<Mappings, NoMemory>
     ensures begins { IfOk result (λ mappings. Begins mappings.vocab vocab) }
     ensures maps { IfOk result AreMappings }
 {

@@ -1,11 +1,11 @@
 //! Tests of mast_join: source queries over small tables, with the choices that SQLite gives for the same rows.
-ghost use Rattle.std.specs.Prelude.{◌≡◌, ◌∷◌, [], IfOk};
+ghost use Rattle.std.specs.Prelude.{◌≡◌, ◌∷◌, [], IfOk, OnOk};
 ghost use Rattle.mast_canon.specs.Fitting.{Fits};
 ghost use Rattle.mast_join.specs.Chosen.{AreFew};
 ghost use Rattle.mast_join_tests.specs.Loaded.{AreLoaded};
 
 use mast_canon::{RowId, Tables};
-use mast_join::choices;
+use mast_join::{Choices, choices};
 use mast_sql::{SourceQuery, read_source_query, sql_tokens};
 use mast_tables::{Column, Table, TableDecl, load};
 use mast_terms::{Kind, List, NoMemory, Text};
@@ -81,24 +81,58 @@ const POSTS: &str =
     "who,year,since\nAda,36,1815-12-10\nGrace,41,\nAlan,7,1912-06-23\nBob,41,1912-06-24\nAda,,1815-12-10\n";
 
 // The choices of a query over both tables, in ascending order of their texts.
+//
+// It is in steps, each of which leaves few values where it ends early: what is dropped at an end is proved at each.
 fn found(alloc: Global, text: &str, only: Option<&[RowId]>) -> Result<String, NoMemory> {
     let people = declared(alloc, "people", &["name", "age", "born"])?;
     let posts = declared(alloc, "posts", &["who", "year", "since"])?;
-    let first = loaded(alloc, &people, PEOPLE)?;
-    let second = loaded(alloc, &posts, POSTS)?;
+    let tables = both(alloc, &people, &posts)?;
+    found_in(alloc, text, &[people, posts], &tables, only)
+}
+
+// The tables of both files.
+fn both(alloc: Global, people: &TableDecl, posts: &TableDecl) -> Result<Tables, NoMemory>
+    ensures fits { IfOk result (λ tables. Fits (people.now ∷ posts.now ∷ []) tables.list) }
+    ensures few { OnOk result (AreFew (people.now ∷ posts.now ∷ [])) }
+{
     let mut list = List::new(alloc);
-    list.push(alloc, first)?;
-    list.push(alloc, second)?;
-    let decls = [people, posts];
+    list.push(alloc, loaded(alloc, people, PEOPLE)?)?;
+    list.push(alloc, loaded(alloc, posts, POSTS)?)?;
+    Ok(Tables { list })
+}
+
+fn found_in(
+    alloc: Global,
+    text: &str,
+    decls: &[TableDecl],
+    tables: &Tables,
+    only: Option<&[RowId]>,
+) -> Result<String, NoMemory>
+    requires fits { Fits decls.now tables.now.list }
+    requires few { AreFew decls.now }
+{
     let query = read(alloc, text)?;
-    let found = choices(alloc, &query, &decls, &Tables { list }, only)?;
+    let found = choices(alloc, &query, decls, tables, only)?;
+    listed(alloc, &found)
+}
+
+fn listed(alloc: Global, found: &Choices) -> Result<String, NoMemory> {
+    let mut lines = lines(alloc, found)?;
+    lines.sort_unstable();
+    joined(alloc, &lines)
+}
+
+fn lines(alloc: Global, found: &Choices) -> Result<Vec<String>, NoMemory> {
     let mut lines = Vec::new(alloc);
     for number in 0..found.len() {
         lines.push(shown(alloc, found.choice(number))?)?;
     }
-    lines.sort_unstable();
+    Ok(lines)
+}
+
+fn joined(alloc: Global, lines: &[String]) -> Result<String, NoMemory> {
     let mut all = String::new(alloc);
-    for line in &lines {
+    for line in lines {
         all.push_str(line.as_str())?;
         all.push(' ')?;
     }

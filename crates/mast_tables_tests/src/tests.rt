@@ -1,5 +1,5 @@
 //! Tests of mast_tables: table files with their rows or breaches, and that calls succeed where memory is there.
-ghost use Rattle.std.specs.Prelude.{◌≡◌, ◌∷◌, [], IfOk, length};
+ghost use Rattle.std.specs.Prelude.{◌≡◌, ◌≤◌, ◌∷◌, [], IfOk, length};
 ghost use Rattle.std.specs.List.{AllByRecursion};
 ghost use Rattle.mast_tables.specs.Rows.{IsPlace};
 ghost use Rattle.mast_tables.specs.Whole.{FitsColumns, whole_rows};
@@ -137,11 +137,22 @@ fn looked_up(
     value: &Value,
 ) -> Result<(Option<u32>, bool, Option<u32>), NoMemory> {
     let decl = declared(alloc)?;
+    looked_up_in(alloc, &decl, bytes, row, column, value)
+}
+
+fn looked_up_in(
+    alloc: Global,
+    decl: &TableDecl,
+    bytes: &[u8],
+    row: u32,
+    column: u32,
+    value: &Value,
+) -> Result<(Option<u32>, bool, Option<u32>), NoMemory> {
     let width = decl.columns.as_slice().len();
     if width > 3 || bytes.len() > 1000 {
         return Err(NoMemory);
     }
-    match load(alloc, bytes, &decl, 3) {
+    match load(alloc, bytes, decl, 3) {
         Ok(table) => {
             if row < 1 || row > table.rows() || column < 1 || column as usize > width {
                 return Err(NoMemory);
@@ -152,7 +163,7 @@ fn looked_up(
             };
             Ok((table.number(row, column), is, table.find(value)))
         }
-        Err(_) => Err(NoMemory),
+        Err(Stop::Named(_) | Stop::NoMemory) => Err(NoMemory),
     }
 }
 
@@ -217,31 +228,67 @@ fn is_cell(table: &Table, row: u32, column: u32, value: &Value) -> bool
     }
 }
 
-fn is_row(table: &Table, row: u32, text: &Value, number: &Value) -> bool
-    requires text { IsPlace table.now row 1 }
-    requires number { IsPlace table.now row 2 }
+// Whether a row is this text and this number.
+fn is_row(alloc: Global, table: &Table, row: u32, text: &str, number: i64) -> bool
+    requires first { IsPlace table.now row 1 }
+    requires second { IsPlace table.now row 2 }
 {
-    is_cell(table, row, 1, text) && is_cell(table, row, 2, number)
+    match Text::from_str(alloc, text) {
+        Ok(text) => {
+            is_cell(table, row, 1, &Value::Text(text))
+                && is_cell(table, row, 2, &Value::Int(number))
+        }
+        Err(_) => false,
+    }
+}
+
+// Whether these are the numbers of the empty text and of the last cell of two rows.
+fn are_numbers(alloc: Global, table: &Table) -> bool
+    requires { IsPlace table.now 2 2 }
+{
+    match Text::from_str(alloc, "") {
+        Ok(text) => {
+            table.find(&Value::Text(text)) == Some(2)
+                && table.number(2, 2) == Some(1)
+                && table.rows() == 2
+        }
+        Err(_) => false,
+    }
+}
+
+fn is_given(alloc: Global, table: &Table, first: &str, second: &str, number: i64) -> bool
+    requires { table.now ≡ whole_rows (of_pair first.now number ∷ of_pair second.now number ∷ []) }
+{
+    is_row(alloc, table, 1, first, number)
+        && is_row(alloc, table, 2, second, number)
+        && are_numbers(alloc, table)
+}
+
+// Whether the copy of a table is given too.
+fn is_copied(
+    alloc: Global,
+    table: &Table,
+    first: &str,
+    second: &str,
+    number: i64,
+) -> Result<bool, NoMemory>
+    requires { table.now ≡ whole_rows (of_pair first.now number ∷ of_pair second.now number ∷ []) }
+{
+    let copy = table.copy(alloc)?;
+    Ok(is_given(alloc, &copy, first, second, number))
+}
+
+fn given_and_copied(alloc: Global) -> Result<bool, NoMemory> {
+    let table = given(alloc, "u", "", 1)?;
+    if !is_given(alloc, &table, "u", "", 1) {
+        return Ok(false);
+    }
+    is_copied(alloc, &table, "u", "", 1)
 }
 
 #[test]
 fn given_values_are_the_cells_of_a_table_and_of_its_copy(rt: HostRuntime) -> Result<(), Fail> {
-    let alloc = rt.alloc();
-    let u = Value::Text(Text::from_str(alloc, "u")?);
-    let empty = Value::Text(Text::from_str(alloc, "")?);
-    let one = Value::Int(1);
-    let table = given(alloc, "u", "", 1)?;
-    assert!(rt; is_row(&table, 1, &u, &one) && is_row(&table, 2, &empty, &one));
-    assert_eq!(rt;
-        (table.rows(), table.number(2, 2), table.find(&empty)),
-        (2, Some(1), Some(2))
-    );
-    let copy = table.copy(alloc)?;
-    assert!(rt; is_row(&copy, 1, &u, &one) && is_row(&copy, 2, &empty, &one));
-    assert_eq!(rt;
-        (copy.rows(), copy.number(2, 2), copy.find(&empty)),
-        (2, Some(1), Some(2))
-    );
+    assert!(rt; given_and_copied(rt.alloc())?);
     Ok(())
 }
 
@@ -258,6 +305,17 @@ fn counted(alloc: Global, rows: u32) -> Result<Vec<u8>, NoMemory> {
     Ok(file)
 }
 
+fn numbers_and_ones(alloc: Global) -> Result<TableDecl, NoMemory> {
+    let mut columns = List::new(alloc);
+    columns.push(alloc, column(alloc, "n", Kind::Integer, false)?)?;
+    columns.push(alloc, column(alloc, "one", Kind::Integer, false)?)?;
+    Ok(TableDecl {
+        name: Text::from_str(alloc, "t")?,
+        file: Text::from_str(alloc, "t.csv")?,
+        columns,
+    })
+}
+
 // How many rows the file of so many has, and the numbers of the values 1 and `last`.
 fn numbered(
     alloc: Global,
@@ -265,24 +323,26 @@ fn numbered(
     last: i64,
 ) -> Result<(u32, Option<u32>, Option<u32>), NoMemory> {
     let file = counted(alloc, rows)?;
-    let mut columns = List::new(alloc);
-    columns.push(alloc, column(alloc, "n", Kind::Integer, false)?)?;
-    columns.push(alloc, column(alloc, "one", Kind::Integer, false)?)?;
-    let decl = TableDecl {
-        name: Text::from_str(alloc, "t")?,
-        file: Text::from_str(alloc, "t.csv")?,
-        columns,
-    };
+    numbers_in(alloc, file.as_slice(), rows, last)
+}
+
+fn numbers_in(
+    alloc: Global,
+    file: &[u8],
+    rows: u32,
+    last: i64,
+) -> Result<(u32, Option<u32>, Option<u32>), NoMemory> {
+    let decl = numbers_and_ones(alloc)?;
     if file.len() > 10_000_000 || decl.columns.as_slice().len() > 2 {
         return Err(NoMemory);
     }
-    match load(alloc, file.as_slice(), &decl, rows) {
+    match load(alloc, file, &decl, rows) {
         Ok(table) => Ok((
             table.rows(),
             table.find(&Value::Int(1)),
             table.find(&Value::Int(last)),
         )),
-        Err(_) => Err(NoMemory),
+        Err(Stop::Named(_) | Stop::NoMemory) => Err(NoMemory),
     }
 }
 
@@ -299,14 +359,20 @@ fn more_values_than_two_bytes_count_have_numbers(rt: HostRuntime) -> Result<(), 
 }
 
 // The table of a column of so many numbers, 0, 1 and on: how many rows its copy has, and the number of the last value.
-fn of_numbers(alloc: Global, count: u32) -> Result<(u32, Option<u32>), NoMemory> {
+fn of_numbers(alloc: Global, count: u32) -> Result<(u32, Option<u32>), NoMemory>
+    requires { count ≤ 1000000 }
+{
+    let table = table_of_numbers(alloc, count)?;
+    let copy = table.copy(alloc)?;
+    Ok((copy.rows(), copy.find(&Value::Int(count as i64 - 1))))
+}
+
+fn table_of_numbers(alloc: Global, count: u32) -> Result<Table, NoMemory>
+    requires { count ≤ 1000000 }
+{
     let decl = numbers(alloc)?;
-    if count > 1_000_000 {
-        return Err(NoMemory);
-    }
     let rows = rows_of_numbers(alloc, &decl, count)?;
-    let table = Table::of(alloc, &decl, rows.as_slice())?.copy(alloc)?;
-    Ok((table.rows(), table.find(&Value::Int(count as i64 - 1))))
+    Table::of(alloc, &decl, rows.as_slice())
 }
 
 // A table with an integer column.

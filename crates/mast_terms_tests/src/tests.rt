@@ -1,7 +1,7 @@
 //! Tests of mast_terms: what no clause says, values from outside, and that calls succeed where memory is there.
 use mast_terms::{
-    Args, BadDate, BadInt, Date, List, NameKind, NoMemory, Object, Stop, Term, Text, Value,
-    Vocabulary, read_date, read_int, write_term,
+    Args, BadDate, BadInt, Date, NameKind, NoMemory, Object, Stop, Term, Text, Value, Vocabulary,
+    read_date, read_int, write_term,
 };
 use std::alloc::Global;
 use std::test::Fail;
@@ -127,31 +127,54 @@ fn texts_are_kept(rt: HostRuntime) -> Result<(), Fail> {
     Ok(())
 }
 
-// The number, or None where it is refused.
-fn added(
+// Whether an IRI gets this number, or is refused where there is none.
+fn gets(
     vocabulary: &mut Vocabulary,
     alloc: Global,
     kind: NameKind,
     iri: &str,
-) -> Result<Option<u32>, NoMemory> {
+    want: Option<u32>,
+) -> bool {
     match vocabulary.add(alloc, kind, iri) {
-        Ok(name) => Ok(Some(name.0)),
-        Err(Stop::Named(_)) => Ok(None),
-        Err(Stop::NoMemory) => Err(NoMemory),
+        Ok(name) => want == Some(name.0),
+        Err(Stop::Named(_)) => want.is_none(),
+        Err(Stop::NoMemory) => false,
     }
 }
 
-// How many of the answers are as wanted. Each call is made on a copy of what the calls before it left.
-fn right_answers(alloc: Global, cases: &[(NameKind, &str, Option<u32>)]) -> Result<u64, NoMemory> {
-    let mut vocabulary = Vocabulary::new(alloc);
+// How many of the answers are as wanted.
+fn right_names(
+    vocabulary: &mut Vocabulary,
+    alloc: Global,
+    cases: &[(NameKind, &str, Option<u32>)],
+) -> u64 {
     let mut right = 0u64;
     for (kind, iri, want) in cases {
-        vocabulary = vocabulary.copy(alloc)?;
-        if added(&mut vocabulary, alloc, *kind, iri)? == *want {
+        if gets(vocabulary, alloc, *kind, iri, *want) {
             right = right.wrapping_add(1);
         }
     }
-    Ok(right)
+    right
+}
+
+// How many of the answers are as wanted, by a copy of a vocabulary that the first names were added to.
+fn names_by_a_copy(
+    alloc: Global,
+    first: &[(NameKind, &str, Option<u32>)],
+    cases: &[(NameKind, &str, Option<u32>)],
+) -> Result<u64, NoMemory> {
+    let mut vocabulary = Vocabulary::new(alloc);
+    right_names(&mut vocabulary, alloc, first);
+    copied_names(alloc, &vocabulary, cases)
+}
+
+fn copied_names(
+    alloc: Global,
+    vocabulary: &Vocabulary,
+    cases: &[(NameKind, &str, Option<u32>)],
+) -> Result<u64, NoMemory> {
+    let mut copy = vocabulary.copy(alloc)?;
+    Ok(right_names(&mut copy, alloc, cases))
 }
 
 #[test]
@@ -166,32 +189,56 @@ fn names_keep_their_numbers(rt: HostRuntime) -> Result<(), Fail> {
         (NameKind::Role, "http://e/c", None),
         (NameKind::Class, "http://e/c", Some(1)),
     ];
-    assert_eq!(rt; right_answers(rt.alloc(), &cases)?, 8);
+    for first in [&cases[..0], &cases[..4], &cases] {
+        assert_eq!(rt; names_by_a_copy(rt.alloc(), first, &cases)?, 8);
+    }
     Ok(())
 }
 
-// The number of a constant in a vocabulary.
-fn numbered(vocabulary: &mut Vocabulary, alloc: Global, value: &Value) -> Result<u32, NoMemory> {
+// Whether a constant gets this number in a vocabulary.
+fn is_numbered(vocabulary: &mut Vocabulary, alloc: Global, value: &Value, want: u32) -> bool {
     match vocabulary.add_value(alloc, value) {
-        Ok(number) => Ok(number),
-        Err(_) => Err(NoMemory),
+        Ok(number) => number == want,
+        Err(Stop::Named(_) | Stop::NoMemory) => false,
     }
 }
 
-fn constants_added(alloc: Global, numbers: &[i64]) -> Result<List<u32>, NoMemory> {
-    let mut vocabulary = Vocabulary::new(alloc);
-    let mut given = List::new(alloc);
-    for number in numbers {
-        vocabulary = vocabulary.copy(alloc)?;
-        let place = numbered(&mut vocabulary, alloc, &Value::Int(*number))?;
-        given.push(alloc, place)?;
+// How many constants get the numbers behind them.
+fn right_numbers(vocabulary: &mut Vocabulary, alloc: Global, cases: &[(i64, u32)]) -> u64 {
+    let mut right = 0u64;
+    for (number, want) in cases {
+        if is_numbered(vocabulary, alloc, &Value::Int(*number), *want) {
+            right = right.wrapping_add(1);
+        }
     }
-    Ok(given)
+    right
+}
+
+// How many constants get the numbers behind them, by a copy of a vocabulary that the first were added to.
+fn numbers_by_a_copy(
+    alloc: Global,
+    first: &[(i64, u32)],
+    cases: &[(i64, u32)],
+) -> Result<u64, NoMemory> {
+    let mut vocabulary = Vocabulary::new(alloc);
+    right_numbers(&mut vocabulary, alloc, first);
+    copied_numbers(alloc, &vocabulary, cases)
+}
+
+fn copied_numbers(
+    alloc: Global,
+    vocabulary: &Vocabulary,
+    cases: &[(i64, u32)],
+) -> Result<u64, NoMemory> {
+    let mut copy = vocabulary.copy(alloc)?;
+    Ok(right_numbers(&mut copy, alloc, cases))
 }
 
 #[test]
 fn constants_keep_their_numbers(rt: HostRuntime) -> Result<(), Fail> {
-    let given = constants_added(rt.alloc(), &[5, 7, 5])?;
-    assert_eq!(rt; given.as_slice(), [0, 1, 0].as_slice());
+    let cases = [(5, 0), (7, 1), (5, 0)];
+    for first in [&cases[..0], &cases[..1], &cases] {
+        assert_eq!(rt; numbers_by_a_copy(rt.alloc(), first, &cases)?, 3);
+    }
     Ok(())
 }

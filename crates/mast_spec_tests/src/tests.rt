@@ -1,6 +1,6 @@
 //! Tests of specifications: what they have of their documents, and where documents are refused.
-use crate::documents::{document, mappings_of, specification_of};
 use mast_canon::Spec;
+use mast_canon_tests::{document, mappings_of, specification_of};
 use mast_tbox::RestrictionBreach;
 use mast_terms::{NameKind, NoMemory, Stop, Vocabulary};
 use std::alloc::{AllocError, Global};
