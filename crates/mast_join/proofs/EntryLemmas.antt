@@ -1,18 +1,14 @@
 -- One entry more, with what the steps for it need and give.
 use Rattle.std.proofs.Common.{◌≡◌, ℕ, zero, suc, ◌+◌, ◌<◌, ◌≤◌, Bool, true, false, List, [], ◌∷◌, length, get_or, set, replicate, refl, sym, ap, subst, ◌∙◌, arith}
-use Rattle.std.specs.Prelude.{Option, Some, None}
-use Rattle.std.specs.List.{AllByRecursion, All}
+use Rattle.std.specs.List.{AllByRecursion}
 use Rattle.std.proofs.lemmas.List.{length-replicate, length-set}
 use Rattle.std.proofs.lemmas.Bool.{cond-true, cond-false, false≢true}
-use Rattle.mast_cq.specs.Queries.{In}
-use Rattle.mast_cq.proofs.ListLemmas.{in_each, each_in}
-use Rattle.mast_tables.specs.Rows.{Row, IsPlace}
+use Rattle.mast_cq.proofs.ListLemmas.{each_in}
 use Rattle.mast_join.specs.Chosen.{ChoiceList}
 use Rattle.mast_join.specs.declared.join.Join.{Join}
-use Rattle.mast_join.specs.declared.order.Link.{Link}
-use Rattle.mast_join.specs.inside.Grows.{ArePartialOf, AreWhole, CanGrow, HasGrown, HasOther}
+use Rattle.mast_join.specs.inside.Grows.{ArePartialOf, AreWhole, CanGrow, HasGrown}
 use Rattle.mast_join.specs.inside.Joins.{IsJoin, nothing, only, sources}
-use Rattle.mast_join.specs.inside.Partial.{AreCandidates, AreReady, IsReady, open_count, pass_all}
+use Rattle.mast_join.specs.inside.Partial.{AreCandidates, IsReady, open_count, pass_all}
 use Rattle.mast_join.proofs.FewerLemmas.{nothing_at}
 use Rattle.mast_join.proofs.GrowLemmas.{candidate_rows, partial_ready}
 use Rattle.mast_join.proofs.JoinLemmas.{length-sources}

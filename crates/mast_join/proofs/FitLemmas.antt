@@ -1,5 +1,5 @@
 -- Tables that fit their declarations have the cells that a source query over these means.
-use Rattle.std.proofs.Common.{◌≡◌, ℕ, zero, suc, ◌+◌, ◌-◌, ◌^◌, ◌<◌, ◌≤◌, Bool, true, false, ltb, if◌then◌else◌, List, [], ◌∷◌, ◌++◌, length, get_or, map, ◌⊎◌, inl, inr, refl, sym, ap, subst, ◌∙◌, arith}
+use Rattle.std.proofs.Common.{◌≡◌, ℕ, zero, suc, ◌+◌, ◌-◌, ◌^◌, ◌<◌, ◌≤◌, Bool, true, false, ltb, if◌then◌else◌, List, [], ◌∷◌, length, get_or, inl, inr, refl, sym, ap, subst, ◌∙◌, arith}
 use Rattle.std.specs.Prelude.{Option, Some, None}
 use Rattle.std.specs.List.{AllByRecursion, AllZip}
 use Rattle.std.specs.Str.{bytes_eq}
@@ -22,8 +22,8 @@ use Rattle.mast_join.specs.declared.comparisons.Side.{Side}
 use Rattle.mast_join.specs.declared.comparisons.Side.TheVariants as side
 use Rattle.mast_join.specs.declared.comparisons.Test.{Test}
 use Rattle.mast_join.specs.inside.Partial.{IsCellOver, IsSideOver, IsTestOver}
-use Rattle.mast_join.specs.inside.Plans.{IsPlaced, IsConstant, IsSide, IsTest, AreTests, are_below}
-use Rattle.mast_join.proofs.PlanLemmas.{places_of, tables_of, length-tables_of, IsMeaningOver, IsWithinTable, meaning_over}
+use Rattle.mast_join.specs.inside.Plans.{IsPlaced, IsConstant, IsSide, AreTests, are_below}
+use Rattle.mast_join.proofs.PlanLemmas.{places_of, tables_of, length-tables_of, IsMeaningOver, meaning_over}
 
 named_case : (b : Bool) (t : TableDecl) (ts : List TableDecl) (n : ℕ) (o : Option TableDecl) (d : TableDecl) → (o ≡ Some d → (n < length ts) × ((x : TableDecl) → get_or ts n x ≡ d)) → (if b then Some t else o) ≡ Some d
     → ((if b then 0 else suc n) < suc (length ts)) × ((x : TableDecl) → get_or (t ∷ ts) (if b then 0 else suc n) x ≡ d)

@@ -1,14 +1,12 @@
 -- The steps of a join: choices one by one, and entries one by one.
-use Rattle.std.proofs.Common.{◌≡◌, ◌↔◌, ℕ, zero, suc, ◌+◌, ◌-◌, ◌<◌, ◌≤◌, Bool, true, false, List, [], ◌∷◌, ◌++◌, length, get_or, set, take, map, ◌⊎◌, inl, inr, refl, sym, ap, subst, ◌∙◌, arith}
+use Rattle.std.proofs.Common.{◌≡◌, ℕ, zero, suc, ◌+◌, ◌-◌, ◌<◌, ◌≤◌, Bool, true, false, List, [], ◌∷◌, ◌++◌, length, get_or, set, take, inl, inr, refl, sym, ap, subst, ◌∙◌, arith}
 use Rattle.std.specs.Prelude.{Option, Some, None}
-use Rattle.std.specs.List.{AllByRecursion, All}
-use Rattle.std.proofs.lemmas.Bool.{cases_lt, cases_eq, false≢true}
-use Rattle.std.proofs.lemmas.List.{take_more, get_or_past, get_or_default, get_or-set_same, get_or-set_other}
+use Rattle.std.proofs.lemmas.Bool.{cases_lt, false≢true}
+use Rattle.std.proofs.lemmas.List.{take_more, get_or_past, get_or-set_same, get_or-set_other}
 use Rattle.mast_terms.specs.declared.value.Value.{Value}
 use Rattle.mast_cq.specs.Queries.{In}
 use Rattle.mast_cq.proofs.ListLemmas.{in_each, each_in}
-use Rattle.mast_tables.specs.Rows.{Row, IsPlace, cell_at}
-use Rattle.mast_canon.specs.declared.rows.RowId.{RowId}
+use Rattle.mast_tables.specs.Rows.{Row, cell_at}
 use Rattle.mast_canon.specs.Choices.{IsRowNumber}
 use Rattle.mast_join.specs.Chosen.{ChoiceList}
 use Rattle.mast_join.specs.declared.comparisons.Side.TheVariants as side
@@ -17,10 +15,10 @@ use Rattle.mast_join.specs.declared.index.Index.{Index}
 use Rattle.mast_join.specs.declared.join.Join.{Join}
 use Rattle.mast_join.specs.declared.numbers.Numbers.{Numbers}
 use Rattle.mast_join.specs.declared.order.Link.{Link}
-use Rattle.mast_join.specs.inside.Grows.{CanGrow, HasGrown, HasOther, HaveOneValue, NeedsLink, IsLinked, IsLookup, ArePartialOf}
-use Rattle.mast_join.specs.inside.Joins.{IsJoin, IsLink, IsLinkOf, sources, only, nothing}
+use Rattle.mast_join.specs.inside.Grows.{HasOther, HaveOneValue, NeedsLink, IsLinked, IsLookup, ArePartialOf}
+use Rattle.mast_join.specs.inside.Joins.{IsJoin, IsLink, sources, only, nothing}
 use Rattle.mast_join.specs.inside.Lookups.{IsFound}
-use Rattle.mast_join.specs.inside.Partial.{IsCellOver, IsTestOver, IsSideOver, IsBound, MayHave, IsPartial, ArePartial, AreCandidates, AreGrown, AreOffered, AreReady, AreRows, IsPartly, IsReady, Once, kept, pass_all, passes, side_value}
+use Rattle.mast_join.specs.inside.Partial.{IsCellOver, IsTestOver, IsSideOver, IsBound, MayHave, IsPartial, AreCandidates, AreGrown, AreOffered, AreReady, AreRows, IsPartly, IsReady, Once, kept, passes, side_value}
 use Rattle.mast_join.proofs.FewerLemmas.{passes_each}
 use Rattle.mast_join.proofs.GrownLemmas.{grown_more}
 use Rattle.mast_join.proofs.JoinLemmas.{cell_is, length-sources}

@@ -1,11 +1,11 @@
 -- The walk along the rows with one key.
-use Rattle.std.proofs.Common.{◌≡◌, ℕ, zero, suc, ◌+◌, ◌-◌, ◌<◌, ◌≤◌, Bool, true, false, List, [], ◌∷◌, ◌++◌, length, get_or, map, ◌⊎◌, inl, inr, refl, sym, ap, subst, ◌∙◌, arith, append_assoc, append-nil}
-use Rattle.std.specs.Prelude.{Option, Some, None, nat_eq}
+use Rattle.std.proofs.Common.{◌≡◌, ℕ, suc, ◌-◌, ◌<◌, ◌≤◌, true, List, [], ◌∷◌, ◌++◌, length, get_or, map, inl, inr, refl, sym, ap, subst, ◌∙◌, arith, append_assoc, append-nil}
+use Rattle.std.specs.Prelude.{Option, Some, None}
 use Rattle.std.proofs.lemmas.Bool.{eqb-true, false≢true}
 use Rattle.mast_join.specs.declared.index.Index.{Index}
-use Rattle.mast_join.specs.inside.Chains.{chain, last, has_key, AreHeads, AreNexts, IsIndexed}
-use Rattle.mast_join.specs.inside.Lookups.{scattered, key_of, keys, IsIndex, numbered}
-use Rattle.mast_join.proofs.ChainLemmas.{HasLast, last_of}
+use Rattle.mast_join.specs.inside.Chains.{chain, last, has_key}
+use Rattle.mast_join.specs.inside.Lookups.{scattered, keys, IsIndex, numbered}
+use Rattle.mast_join.proofs.ChainLemmas.{last_of}
 
 -- the key of a number in an index
 abbrev pub key_in : Index → ℕ → ℕ

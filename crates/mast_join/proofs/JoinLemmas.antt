@@ -1,11 +1,10 @@
 -- The cells of chosen rows, and the tables of entries.
-use Rattle.std.proofs.Common.{◌≡◌, ℕ, ◌+◌, ◌-◌, ◌<◌, ◌≤◌, Bool, true, false, List, [], length, get_or, replicate, ◌⊎◌, inl, inr, refl, sym, ap, subst, ◌∙◌, arith}
+use Rattle.std.proofs.Common.{◌≡◌, ℕ, ◌+◌, ◌-◌, ◌<◌, ◌≤◌, true, false, List, [], length, get_or, replicate, sym, ap, subst, ◌∙◌, arith}
 use Rattle.std.specs.Prelude.{Option, None, nat_eq}
 use Rattle.std.proofs.lemmas.Bool.{eqb-false}
 use Rattle.std.specs.List.{All}
 use Rattle.std.proofs.lemmas.List.{get_or-map, length-map, length-replicate}
 use Rattle.std.proofs.lemmas.List.Elements.{All-from_recursion, All-replicate}
-use Rattle.mast_terms.specs.declared.value.Value.{Value}
 use Rattle.mast_tables.specs.Rows.{Row, IsPlace, cell_at}
 use Rattle.mast_cq.proofs.ListLemmas.{in_each, each_in}
 use Rattle.mast_canon.specs.Choices.{IsRowNumber}

@@ -1,26 +1,20 @@
 -- Equalities that link an entry to bound ones.
-use Rattle.std.proofs.Common.{◌≡◌, ◌↔◌, ℕ, zero, suc, ◌+◌, ◌-◌, ◌<◌, ◌≤◌, Bool, true, false, List, [], ◌∷◌, length, get_or, set, map, ◌⊎◌, inl, inr, refl, sym, ap, subst, ◌∙◌, arith}
-use Rattle.std.specs.Prelude.{Option, Some, None, nat_eq, ◌||◌}
-use Rattle.std.specs.List.{AllByRecursion, All}
+use Rattle.std.proofs.Common.{◌≡◌, ℕ, Bool, true, false, List, get_or, refl, sym, ap, subst, ◌∙◌}
+use Rattle.std.specs.Prelude.{Option, Some, None, ◌||◌}
 use Rattle.std.specs.Ordering.{is_eq}
 use Rattle.std.specs.declared.cmp.Ordering.{Ordering}
 use Rattle.std.specs.declared.cmp.Ordering.TheVariants as o
-use Rattle.std.proofs.lemmas.Bool.{ne_eqb, false≢true, cases_eq}
-use Rattle.std.proofs.lemmas.List.{get_or-set_same, get_or-set_other, length-map, get_or_default, get_or_past}
+use Rattle.std.proofs.lemmas.Bool.{ne_eqb, false≢true}
 use Rattle.mast_terms.specs.Orders.{value_order}
 use Rattle.mast_terms.proofs.OrderLemmas.{value_orders}
 use Rattle.mast_terms.specs.declared.value.Value.{Value}
-use Rattle.mast_cq.specs.Queries.{In}
-use Rattle.mast_cq.proofs.ListLemmas.{in_each, each_in}
 use Rattle.mast_sql.specs.declared.query.Compare.{Compare}
 use Rattle.mast_sql.specs.declared.query.Compare.TheVariants as sign
-use Rattle.mast_tables.specs.Rows.{Row, IsPlace, cell_at}
-use Rattle.mast_canon.specs.Choices.{compare, IsRowNumber}
-use Rattle.mast_join.specs.declared.comparisons.Side.{Side}
+use Rattle.mast_tables.specs.Rows.{Row}
+use Rattle.mast_canon.specs.Choices.{compare}
 use Rattle.mast_join.specs.declared.comparisons.Side.TheVariants as side
 use Rattle.mast_join.specs.declared.comparisons.Test.{Test}
-use Rattle.mast_join.specs.inside.Partial.{side_value, is_open, passes, pass_all, IsCellOver, IsSideOver, IsTestOver, IsBound, MayHave}
-use Rattle.mast_join.proofs.FewerLemmas.{passes_each}
+use Rattle.mast_join.specs.inside.Partial.{side_value, is_open, passes}
 
 -- two values that compare as equal are one
 pub record AreOne (a b : Option Value) : Type 0 where

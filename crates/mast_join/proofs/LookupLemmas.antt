@@ -1,5 +1,5 @@
 -- Rows that an index finds.
-use Rattle.std.proofs.Common.{◌≡◌, ◌↔◌, ℕ, zero, suc, ◌+◌, ◌-◌, ◌<◌, ◌≤◌, Bool, true, false, List, [], ◌∷◌, ◌++◌, length, get_or, map, ◌⊎◌, inl, inr, refl, sym, ap, subst, ◌∙◌, arith}
+use Rattle.std.proofs.Common.{◌≡◌, ℕ, ◌+◌, ◌<◌, ◌≤◌, true, List, [], ◌∷◌, ◌++◌, length, get_or, map, inl, inr, refl, sym, ap, subst, ◌∙◌, arith}
 use Rattle.std.specs.Prelude.{Option, Some, None, option_and_then}
 use Rattle.std.specs.List.{All}
 use Rattle.std.specs.Option.{IfSome}
@@ -14,7 +14,6 @@ use Rattle.mast_tables.specs.Laws.{MissingHaveNone, NumbersTell}
 use Rattle.mast_tables.specs.Rows.{Row, IsPlace, cell_at, number_at, number_of}
 use Rattle.mast_canon.specs.Choices.{IsRowNumber}
 use Rattle.mast_join.specs.declared.index.Index.{Index}
-use Rattle.mast_join.specs.declared.numbers.Known.{Known}
 use Rattle.mast_join.specs.inside.Chains.{IsIndexed, chain, has_key, heads_after, next_of}
 use Rattle.mast_join.specs.inside.Lookups.{scattered, key_of, keys_of, keys, IsIndex, numbered, IsFound, IsNoted}
 use Rattle.mast_join.specs.inside.Partial.{AreRows, Once}

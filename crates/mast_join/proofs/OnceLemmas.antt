@@ -1,9 +1,8 @@
 -- Lists in which no element stands twice.
-use Rattle.std.proofs.Common.{◌≡◌, ℕ, zero, suc, ◌+◌, ◌<◌, ◌≤◌, List, [], ◌∷◌, ◌++◌, length, get_or, take, drop, ◌⊎◌, inl, inr, refl, sym, ap, subst, ◌∙◌, arith}
-use Rattle.std.specs.Prelude.{Option, Some, None, slice_get}
+use Rattle.std.proofs.Common.{◌≡◌, ℕ, zero, suc, ◌+◌, ◌<◌, List, [], ◌∷◌, ◌++◌, length, get_or, take, drop, inl, inr, refl, sym, ap, subst, ◌∙◌, arith}
+use Rattle.std.specs.Prelude.{Some, slice_get}
 use Rattle.std.proofs.lemmas.List.{take-append-drop, drop_more}
 use Rattle.std.proofs.lemmas.Option.{none-some, same_Some}
-use Rattle.mast_terms.specs.Vocabularies.{EachOnce}
 use Rattle.mast_cq.specs.Queries.{In}
 use Rattle.mast_cq.proofs.ListLemmas.{in_append, append_left, append_right}
 use Rattle.mast_join.specs.inside.Partial.{Once}

@@ -1,10 +1,10 @@
 -- A source query over tables, and what it is made into.
-use Rattle.std.proofs.Common.{◌≡◌, ◌↔◌, ℕ, zero, suc, ◌+◌, ◌-◌, ◌<◌, ◌≤◌, Bool, true, false, if◌then◌else◌, List, [], ◌∷◌, ◌++◌, length, get_or, map, take, ◌⊎◌, inl, inr, refl, sym, ap, subst, ◌∙◌, arith}
-use Rattle.std.specs.Prelude.{Option, Some, None, ◌&&◌, ◌||◌, nat_eq}
+use Rattle.std.proofs.Common.{◌≡◌, ℕ, zero, suc, ◌+◌, ◌-◌, ◌<◌, ◌≤◌, Bool, true, false, if◌then◌else◌, List, [], ◌∷◌, ◌++◌, length, get_or, map, take, inl, inr, refl, sym, ap, subst, ◌∙◌, arith}
+use Rattle.std.specs.Prelude.{Option, Some, None, ◌||◌, nat_eq}
 use Rattle.std.specs.List.{AllByRecursion, AllZip}
-use Rattle.std.specs.Option.{option_or, option_to_list}
+use Rattle.std.specs.Option.{option_to_list}
 use Rattle.std.specs.Str.{bytes_eq}
-use Rattle.std.proofs.lemmas.Bool.{and_parts, and_from, ne_eqb, cases_Bool}
+use Rattle.std.proofs.lemmas.Bool.{and_parts, and_from, ne_eqb}
 use Rattle.std.proofs.lemmas.List.{take_more}
 use Rattle.std.proofs.lemmas.Option.{none-some, same_Some}
 use Rattle.mast_terms.specs.declared.value.Kind.{Kind}
@@ -22,13 +22,13 @@ use Rattle.mast_tables.specs.declared.declaration.TableDecl.{TableDecl}
 use Rattle.mast_tables.specs.Rows.{Row}
 use Rattle.mast_mapping.specs.Columns.{Meaning, table_named, column_named, column_of_table, is_alias, meanings, only, meaning_of}
 use Rattle.mast_canon.specs.declared.rows.RowId.{RowId}
-use Rattle.mast_canon.specs.Choices.{table_number, rows_of, IsRowNumber, IsChoice, chosen, cell_of, operand_value, compare, IsTrueOf, Meets}
+use Rattle.mast_canon.specs.Choices.{table_number, rows_of, IsRowNumber, chosen, cell_of, operand_value, compare, IsTrueOf}
 use Rattle.mast_canon.specs.Facts.{chosen_rows}
 use Rattle.mast_join.specs.Chosen.{IsWithin, IsMet}
 use Rattle.mast_join.specs.declared.comparisons.Side.{Side}
 use Rattle.mast_join.specs.declared.comparisons.Side.TheVariants as side
 use Rattle.mast_join.specs.declared.comparisons.Test.{Test}
-use Rattle.mast_join.specs.inside.Partial.{side_value, is_open, passes, pass_all, MayHave, IsAmong}
+use Rattle.mast_join.specs.inside.Partial.{side_value, is_open, passes, pass_all, MayHave}
 use Rattle.mast_join.specs.inside.Plans.{IsPlaced, IsConstant, IsSide, IsTest, AreTests, sources_of}
 
 -- the numbers of the tables of entries

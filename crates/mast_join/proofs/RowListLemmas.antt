@@ -1,7 +1,7 @@
 -- Lists of rows of an entry.
-use Rattle.std.proofs.Common.{◌≡◌, ◌↔◌, ℕ, zero, suc, ◌+◌, ◌-◌, ◌<◌, ◌≤◌, Bool, true, false, eqb, if◌then◌else◌, List, [], ◌∷◌, ◌++◌, length, get_or, drop, append_assoc, ◌⊎◌, inl, inr, refl, sym, ap, subst, ◌∙◌, arith}
+use Rattle.std.proofs.Common.{◌≡◌, ◌↔◌, ℕ, zero, suc, ◌+◌, ◌<◌, ◌≤◌, Bool, true, false, eqb, if◌then◌else◌, List, [], ◌∷◌, ◌++◌, length, get_or, drop, append_assoc, ◌⊎◌, inl, inr, refl, sym, ap, subst, ◌∙◌, arith}
 use Rattle.std.specs.Prelude.{Option, Some, None, ◌&&◌, nat_eq, nat_le}
-use Rattle.std.specs.List.{All, AllPairs, AllByRecursion, Contains, filter, dedup}
+use Rattle.std.specs.List.{All, AllPairs, Contains, filter, dedup}
 use Rattle.std.specs.List.Retain.{IsFiltered, DiffersFromLast}
 use Rattle.std.specs.List.Sorted.{IsPermutation, IsSorted}
 use Rattle.std.specs.Ordering.{nat_cmp}
@@ -16,8 +16,7 @@ use Rattle.mast_cq.specs.Queries.{In}
 use Rattle.mast_cq.proofs.ListLemmas.{in_append, append_left, append_right, in_each}
 use Rattle.mast_tables.specs.Rows.{Row}
 use Rattle.mast_canon.specs.declared.rows.RowId.{RowId}
-use Rattle.mast_canon.specs.Choices.{IsRowNumber}
-use Rattle.mast_join.specs.inside.Partial.{MayHave, Once}
+use Rattle.mast_join.specs.inside.Partial.{Once}
 use Rattle.mast_join.specs.inside.RowLists.{numbers_to, is_given, given, AreAllowed}
 use Rattle.mast_join.proofs.OnceLemmas.{once_append, stands_at, in_get}
 

@@ -1,19 +1,18 @@
 -- Partial choices in which each entry is bound are the choices that meet the query; and the first partial choices.
-use Rattle.std.proofs.Common.{◌≡◌, ℕ, zero, suc, ◌+◌, ◌-◌, ◌<◌, ◌≤◌, Bool, true, false, if◌then◌else◌, List, [], ◌∷◌, length, get_or, replicate, ◌⊎◌, inl, inr, refl, sym, ap, subst, ◌∙◌, arith}
-use Rattle.std.specs.Prelude.{Option, Some, None}
+use Rattle.std.proofs.Common.{◌≡◌, ℕ, ◌<◌, Bool, true, false, if◌then◌else◌, List, [], ◌∷◌, length, get_or, replicate, inl, inr, refl, sym, subst, ◌∙◌, arith}
+use Rattle.std.specs.Prelude.{Option}
 use Rattle.std.proofs.lemmas.List.{ext_get_or, get_or-replicate, length-replicate}
-use Rattle.mast_cq.specs.Queries.{In}
 use Rattle.mast_sql.specs.declared.query.SourceQuery.{SourceQuery}
 use Rattle.mast_tables.specs.declared.declaration.TableDecl.{TableDecl}
 use Rattle.mast_tables.specs.Rows.{Row}
 use Rattle.mast_canon.specs.declared.rows.RowId.{RowId}
 use Rattle.mast_join.specs.Chosen.{AreChoices, IsMet}
 use Rattle.mast_join.specs.declared.comparisons.Test.{Test}
-use Rattle.mast_join.specs.inside.Partial.{MayHave, IsBound, IsPartial, ArePartial, Once, open_count, pass_all}
+use Rattle.mast_join.specs.inside.Partial.{MayHave, IsBound, IsPartial, ArePartial, open_count, pass_all}
 use Rattle.mast_join.specs.inside.Plans.{AreTests, sources_of}
 use Rattle.mast_join.proofs.FewerLemmas.{nothing_at}
 use Rattle.mast_join.proofs.OnceLemmas.{each_once}
-use Rattle.mast_join.proofs.PlanLemmas.{places_of, tables_of, IsFull, full_met, met_full, met_passes}
+use Rattle.mast_join.proofs.PlanLemmas.{places_of, tables_of, full_met, met_full, met_passes}
 use Rattle.mast_join.proofs.StepLemmas.{all_bound}
 
 module _ (decls : List TableDecl) (tables : List (List Row)) (query : SourceQuery) (given : Option (List RowId)) (tests : List Test) (are : AreTests decls query.from query.conditions tests) (bound : List Bool) (none : open_count bound ≡ 0) where

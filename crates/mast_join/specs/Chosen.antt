@@ -1,5 +1,5 @@
 -- Lists of choices, and the choices that a source query has over some rows.
-use Rattle.std.specs.Prelude.{◌↔◌, ℕ, ◌-◌, ◌^◌, ◌<◌, length, List, [], ◌∷◌, Option, Some, None}
+use Rattle.std.specs.Prelude.{◌↔◌, ℕ, ◌-◌, ◌^◌, ◌<◌, length, List, Option, Some, None}
 use Rattle.std.specs.List.{AllByRecursion}
 use Rattle.mast_terms.specs.Vocabularies.{EachOnce}
 use Rattle.mast_cq.specs.Queries.{In}

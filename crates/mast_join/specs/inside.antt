@@ -1,9 +1,19 @@
 -- What private functions alone cite: how choices are kept, what a query is made into, and how its join goes.
 pub mod Chains
+pub mod Cuts
+pub mod Filling
+pub mod Gathers
 pub mod Grows
 pub mod Joins
+pub mod Keeping
 pub mod Lookups
+pub mod MadeFacts
+pub mod Namings
 pub mod Partial
 pub mod Parts
+pub mod Places
 pub mod Plans
+pub mod Relates
 pub mod RowLists
+pub mod Shapes
+pub mod Values

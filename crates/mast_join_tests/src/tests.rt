@@ -34,7 +34,7 @@ fn declared(alloc: Global, name: &str, columns: &[&str; 3]) -> Result<TableDecl,
 }
 
 // The table of a file.
-fn loaded(alloc: Global, decl: &TableDecl, file: &str) -> Result<Table, NoMemory>
+pub(crate) fn loaded(alloc: Global, decl: &TableDecl, file: &str) -> Result<Table, NoMemory>
     ensures { IfOk result (AreLoaded decl.now) }
 {
     if file.len() > 1000 || decl.columns.as_slice().len() > 3 {

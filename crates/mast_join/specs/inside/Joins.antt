@@ -1,5 +1,5 @@
 -- Joins: a source query over tables, as the code holds it.
-use Rattle.std.specs.Prelude.{◌≡◌, ◌⊎◌, ℕ, ◌<◌, Bool, true, false, List, [], length, get_or, replicate, Option}
+use Rattle.std.specs.Prelude.{◌≡◌, ◌⊎◌, ℕ, ◌<◌, Bool, true, false, List, length, get_or, replicate, Option}
 use Rattle.std.specs.List.{All}
 use Rattle.std.specs.Option.{option_copied}
 use Rattle.mast_sql.specs.declared.query.Compare.TheVariants as sign

@@ -1,5 +1,5 @@
 -- Rows by the value of a column, and the numbers that a column's values have in another table.
-use Rattle.std.specs.Prelude.{◌≡◌, ℕ, ◌+◌, ◌*◌, ◌%◌, ◌^◌, ◌<◌, Bool, true, List, [], map, length, get_or, Option, Some, None, option_and_then}
+use Rattle.std.specs.Prelude.{◌≡◌, ℕ, ◌*◌, ◌%◌, ◌<◌, true, List, map, length, get_or, Option, Some, None, option_and_then}
 use Rattle.std.specs.List.{All}
 use Rattle.mast_terms.specs.declared.value.Value.{Value}
 use Rattle.mast_cq.specs.Queries.{In}

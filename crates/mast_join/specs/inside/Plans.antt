@@ -1,5 +1,5 @@
 -- What a source query is made into: tables by number, and comparisons whose sides are places.
-use Rattle.std.specs.Prelude.{◌≡◌, ℕ, Bool, true, ◌&&◌, nat_lt, List, [], ◌∷◌, ◌++◌, map, get_or, Option, Some, None}
+use Rattle.std.specs.Prelude.{◌≡◌, ℕ, Bool, true, ◌&&◌, nat_lt, List, [], ◌∷◌, map, get_or, Option, Some, None}
 use Rattle.std.specs.List.{AllZip}
 use Rattle.mast_terms.specs.declared.value.Value.{Value}
 use Rattle.mast_sql.specs.declared.query.Comparison.{Comparison}

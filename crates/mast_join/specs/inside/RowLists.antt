@@ -1,5 +1,5 @@
 -- Lists of rows of an entry.
-use Rattle.std.specs.Prelude.{◌≡◌, ◌↔◌, ℕ, zero, suc, ◌≤◌, Bool, ◌&&◌, nat_eq, nat_le, if◌then◌else◌, List, [], ◌∷◌, ◌++◌, set, Option}
+use Rattle.std.specs.Prelude.{◌↔◌, ℕ, zero, suc, Bool, ◌&&◌, nat_eq, nat_le, if◌then◌else◌, List, [], ◌∷◌, ◌++◌, set, Option}
 use Rattle.mast_cq.specs.Queries.{In}
 use Rattle.mast_tables.specs.Rows.{Row}
 use Rattle.mast_canon.specs.declared.rows.RowId.{RowId}

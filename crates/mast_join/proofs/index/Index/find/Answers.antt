@@ -1,7 +1,7 @@
 use Rattle.std.proofs.Common.{◌≡◌, ◌-◌, ◌<◌, ℕ, length, get_or, refl, ap, ◌∙◌, arith}
 use Rattle.std.proofs.lemmas.List.{get_or_read}
 use Rattle.mast_join.specs.inside.Lookups.{scattered}
-use Rattle.mast_join.proofs.IndexLemmas.{walked_first, walked_next, walked_smaller, walked_out}
+use Rattle.mast_join.proofs.IndexLemmas.{walked_first, walked_next, walked_smaller}
 use Rattle.mast_join.proofs.index.Index.find.Goals as goal
 
 pub loop-place-init : goal.loop-place-init

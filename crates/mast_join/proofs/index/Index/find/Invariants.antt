@@ -1,6 +1,3 @@
-use Rattle.std.proofs.Common.{◌≡◌, ◌++◌, map, get_or, length}
-use Rattle.mast_join.specs.inside.Lookups.{keys, scattered, numbered}
-use Rattle.mast_join.specs.inside.Chains.{chain, last}
 use Rattle.mast_join.proofs.IndexLemmas.{IsWalked}
 use Rattle.mast_join.proofs.index.Index.find.Given as goal
 

@@ -1,6 +1,6 @@
 use Rattle.std.proofs.Common.{List, ℕ, subst}
 use Rattle.std.proofs.lemmas.Result.{IfOk-weaker}
-use Rattle.mast_join.specs.inside.Grows.{HasGrown, IsLinked}
+use Rattle.mast_join.specs.inside.Grows.{HasGrown}
 use Rattle.mast_join.proofs.EntryLemmas.{can_grow, has_grown, its_source}
 use Rattle.mast_join.proofs.GrowLemmas.{candidate_rows, link_over, linked, other_over}
 use Rattle.mast_join.proofs.join.Join.extend.Goals as goal

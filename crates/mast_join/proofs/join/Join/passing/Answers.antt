@@ -1,4 +1,4 @@
-use Rattle.std.proofs.Common.{◌≡◌, ◌+◌, ◌++◌, true, List, ℕ, get_or, set, drop, ap, sym, ◌∙◌}
+use Rattle.std.proofs.Common.{◌+◌, ◌++◌, List, ℕ, get_or, drop, ap, sym, ◌∙◌}
 use Rattle.std.specs.List.{filter}
 use Rattle.mast_join.specs.inside.Joins.{nothing, sources}
 use Rattle.mast_join.specs.inside.Partial.{pass_all}

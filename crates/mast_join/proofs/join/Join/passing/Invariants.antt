@@ -1,6 +1,6 @@
-use Rattle.std.proofs.Common.{◌≡◌, ◌++◌, ◌<◌, ◌≤◌, ℕ, drop, get_or, length, set}
+use Rattle.std.proofs.Common.{◌≡◌, ◌++◌, drop}
 use Rattle.std.specs.List.{filter}
-use Rattle.mast_join.specs.inside.Joins.{nothing, sources}
+use Rattle.mast_join.specs.inside.Joins.{nothing}
 use Rattle.mast_join.specs.inside.RowLists.{passes_alone}
 use Rattle.mast_join.proofs.RowLemmas.{IsAlone}
 use Rattle.mast_join.proofs.join.Join.passing.Given as goal

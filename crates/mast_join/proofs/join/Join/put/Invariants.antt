@@ -1,4 +1,4 @@
-use Rattle.std.proofs.Common.{◌≡◌, ◌++◌, ◌<◌, drop, length}
+use Rattle.std.proofs.Common.{◌≡◌, ◌++◌, drop, length}
 use Rattle.mast_join.specs.inside.Joins.{sources}
 use Rattle.mast_join.specs.inside.Partial.{IsPartly, kept}
 use Rattle.mast_join.proofs.join.Join.put.Given as goal

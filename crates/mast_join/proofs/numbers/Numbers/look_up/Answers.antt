@@ -1,4 +1,4 @@
-use Rattle.std.proofs.Common.{◌%◌, length, arith}
+use Rattle.std.proofs.Common.{◌%◌, arith}
 use Rattle.std.specs.Prelude.{Some}
 use Rattle.std.proofs.lemmas.List.{length-set}
 use Rattle.std.proofs.lemmas.List.Elements.{All-set}
