@@ -72,6 +72,7 @@ rows_more decls entries choice i d e lt long =
 pub pool_refl : (pool : Pool) → IsPoolMore pool pool
 pool_refl pool = record { terms = keeps_refl pool.terms; sets = front_refl pool.sets.items }
 
+-- a pool that grows, and again
 pub pool_twice : (a b c : Pool) → IsPoolMore a b → IsPoolMore b c → IsPoolMore a c
 pool_twice a b c f g = record { terms = keeps_twice a.terms b.terms c.terms f.terms g.terms; sets = front_twice a.sets.items b.sets.items c.sets.items f.sets g.sets }
 

@@ -94,6 +94,7 @@ linked_more AllHits seen old new k h = tt
 pub refilled_refl : (number : ℕ) (stored : List Stored) → IsRefilled number stored stored
 refilled_refl number stored = record { long = refl; others = λ k n. refl; plans = λ plan apart p. p }
 
+-- one relation that is filled anew, and again
 pub refilled_twice : (number : ℕ) (a b c : List Stored) → IsRefilled number a b → IsRefilled number b c → IsRefilled number a c
 refilled_twice number a b c f g = record {
   long = g.long ∙ f.long;
@@ -105,6 +106,7 @@ refilled_twice number a b c f g = record {
 pub gained_refl : (P : List ℕ → Type 0) (rows : Rows) → HasOnlyGained P rows rows
 gained_refl P rows = record { width = refl; kept = λ tuple i. i; within = λ tuple i. inl i }
 
+-- rows gained of one kind, and then of another
 pub gained_twice : (P Q : List ℕ → Type 0) (a b c : Rows) → ((row : List ℕ) → Q row → P row) → HasOnlyGained P a b → HasOnlyGained Q b c → HasOnlyGained P a c
 gained_twice P Q a b c k f g = record {
   width = g.width ∙ f.width;
@@ -173,9 +175,11 @@ seen_width old new row (Err e) i = ap (λ (k : Rows). k.width) i
 pub alone : (wanted : Wanted) (row given : List ℕ) (set : ℕ) → wanted ≡ Tuples → given ≡ row → given ≡ with_set wanted row set
 alone wanted row given set w e = e ∙ sym (append-nil row) ∙ ap (λ (k : Wanted). with_set k row set) (sym w)
 
+-- a row for which some hits are wanted, with its set
 pub with_some : (wanted : Wanted) (row given : List ℕ) (set : ℕ) → wanted ≡ SomeHits → given ≡ row ++ set ∷ [] → given ≡ with_set wanted row set
 with_some wanted row given set w e = e ∙ ap (λ (k : Wanted). with_set k row set) (sym w)
 
+-- a row for which all hits are wanted, with its set
 pub with_all : (wanted : Wanted) (row given : List ℕ) (set : ℕ) → wanted ≡ AllHits → given ≡ row ++ set ∷ [] → given ≡ with_set wanted row set
 with_all wanted row given set w e = e ∙ ap (λ (k : Wanted). with_set k row set) (sym w)
 
@@ -190,6 +194,7 @@ pub put_only : {E : Type 0} (number : ℕ) (old new : List Stored) (given : List
     → IsInsertedAt (contents old) number given result (contents new) → given ≡ with_set wanted row set → HasOnlyGained (λ r. r ≡ with_set wanted row set) (rows_at old number) (rows_at new number)
 put_only number old new given result wanted row set there i e = subst (λ (k : List ℕ). HasOnlyGained (λ r. r ≡ k) (rows_at old number) (rows_at new number)) e (inserted_only number old new given there result i)
 
+-- what a row that is put into a relation leaves there
 pub put_has : {E : Type 0} (number : ℕ) (old new : List Stored) (given : List ℕ) (b : Bool) (result : Result Bool E) (wanted : Wanted) (row : List ℕ) (set : ℕ) → result ≡ Ok b → number < length (contents old)
     → IsInsertedAt (contents old) number given result (contents new) → given ≡ with_set wanted row set → Has wanted (rows_at new number).list row set
 put_has number old new given b result wanted row set ok there i e = has_of_in wanted (rows_at new number).list row set
@@ -232,6 +237,7 @@ patterns_front a b (p ∷ ps) f h = (pattern_front a b p f h.0, patterns_front a
 pub conjunction_front : (a b : List Rows) (q : Conjunction) → IsFront a b → IsConjunction a q → IsConjunction b q
 conjunction_front a b q f h = record { some = h.some; patterns = patterns_front a b q.patterns f h.patterns; answered = h.answered }
 
+-- relations that grow, and again
 pub relations_twice : (a b c : List Stored) → AreRelationsMore a b → AreRelationsMore b c → AreRelationsMore a c
 relations_twice a b c f g = record {
   front = front_twice (contents a) (contents b) (contents c) f.front g.front;

@@ -58,6 +58,7 @@ pub slot_more : (old new : Numbered) (decls : List TableDecl) (query : SourceQue
 slot_more old new decls query (Output name) place k s = s
 slot_more old new decls query (Constant value) place k s = (s.0, s.1, get_front old.terms new.terms s.0 (term.Value value) k.terms s.2)
 
+-- the places of slots stay so while numbers come
 pub slots_more : (old new : Numbered) (decls : List TableDecl) (query : SourceQuery) (slots : List Slot) (places : List SlotPlace) → KeepsNumbers old new → AllZip (IsSlotPlace old decls query) slots places → AllZip (IsSlotPlace new decls query) slots places
 slots_more old new decls query [] [] k s = tt
 slots_more old new decls query [] (p ∷ ps) k s = absurd s

@@ -52,6 +52,7 @@ use Rattle.mast_join.proofs.ValueLemmas.{front_refl, get_front}
 pub grown_refl : (store : Store) → IsStoreMore store store
 grown_refl store = record { pool = pool_refl store.pool; relations = relations_refl store.relations }
 
+-- a store that grows, and again
 pub grown_twice : (a b c : Store) → IsStoreMore a b → IsStoreMore b c → IsStoreMore a c
 grown_twice a b c f g = record { pool = pool_twice a.pool b.pool c.pool f.pool g.pool; relations = relations_twice a.relations b.relations c.relations f.relations g.relations }
 
@@ -140,6 +141,7 @@ unchanged_get eq old new h q = ap (λ es. lookup (eq q) es) h
 pub front_push : {X : Type 0} (old new more : List X) → new ≡ old ++ more → IsFront old new
 front_push old new more e = (more, e)
 
+-- a list is a front of itself
 pub front_same : {X : Type 0} (old new : List X) → new ≡ old → IsFront old new
 front_same old new e = ([], e ∙ sym (append-nil old))
 
@@ -226,6 +228,7 @@ second_known P (Var x) Blank k = k
 second_known P (Var x) (Constant c) k = k
 second_known P (Var x) (Var y) k = if_known P (nat_eq x y)
 
+-- the shape of an atom whose numbers are known has known numbers
 pub shape_known : (P : ℕ → Type 0) (g : Atom) → KnownAtom P g → KnownAtom P (shape g)
 shape_known P (Class a x) k = first_known P x k
 shape_known P (Role a x y) k = (first_known P x k.0, second_known P x y k.1)

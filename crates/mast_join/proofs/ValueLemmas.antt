@@ -51,6 +51,7 @@ get_front {X} a b i x f h = ap (λ (l : List X). slice_get l i) f.1 ∙ more a f
 pub keeps_refl : (n : Numbered) → KeepsNumbers n n
 keeps_refl n = record { terms = front_refl n.terms; symbols = front_refl n.symbols }
 
+-- numbers that keep theirs, and again
 pub keeps_twice : (a b c : Numbered) → KeepsNumbers a b → KeepsNumbers b c → KeepsNumbers a c
 keeps_twice a b c f g = record { terms = front_twice a.terms b.terms c.terms f.terms g.terms; symbols = front_twice a.symbols b.symbols c.symbols f.symbols g.symbols }
 
@@ -112,6 +113,7 @@ reads_more old new tables choice slot_place.Nothing value f r = r
 reads_more old new tables choice (slot_place.Known number) value f r = (r.0, r.1, get_front old new number (term.Value r.0) f r.2)
 reads_more old new tables choice (slot_place.Cell entry table column) value f r = r
 
+-- all that is read stays so while terms come
 pub all_read_more : (old new : List Term) (tables : List (List Row)) (choice : List ℕ) (places : List SlotPlace) (values : Option (List Value)) → IsFront old new → ReadAll old tables choice places values → ReadAll new tables choice places values
 all_read_more old new tables choice [] values f r = r
 all_read_more old new tables choice (p ∷ ps) values f r = (r.0, r.1, reads_more old new tables choice p r.0 f r.2, all_read_more old new tables choice ps r.1 f r.3, r.4)
