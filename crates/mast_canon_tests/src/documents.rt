@@ -89,7 +89,7 @@ fn few_columns(tables: &[TableDecl]) -> bool
 fn few_heads(maps: &[Map]) -> bool
     ensures { result ≡ true → HasNumbers (split_maps maps.now) }
 {
-    let mut left = 1000;
+    let mut left = 2000;
     for map in maps {
         let heads = map.heads.as_slice().len();
         if heads > left {

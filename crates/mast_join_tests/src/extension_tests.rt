@@ -34,6 +34,14 @@ enum Asked {
     Chain(u32),
     // x, where x has some value by both attributes
     Shared(u32, u32),
+    // x, where x and x are a pair of the role
+    Loops(u32),
+    // x, where x and some object of its own are a pair of the role
+    Subjects(u32),
+    // x, where x is in both classes
+    Common(u32, u32),
+    // x, where x is in the class, and a pair of the role with some y in the class
+    Steps(u32, u32),
 }
 
 // A test that every row passes.
@@ -233,6 +241,82 @@ fn told(
                 },
             )
         }
+        Asked::Loops(name) => {
+            let name = Name(name);
+            let atoms = [Atom::Role {
+                name,
+                from: X,
+                to: X,
+            }];
+            told_of(
+                alloc,
+                extensions,
+                CqRef {
+                    answer: &[X],
+                    atoms: &atoms,
+                },
+            )
+        }
+        Asked::Subjects(name) => {
+            let name = Name(name);
+            let atoms = [Atom::Role {
+                name,
+                from: X,
+                to: Arg::Blank,
+            }];
+            told_of(
+                alloc,
+                extensions,
+                CqRef {
+                    answer: &[X],
+                    atoms: &atoms,
+                },
+            )
+        }
+        Asked::Common(one, other) => {
+            let (one, other) = (Name(one), Name(other));
+            let atoms = [
+                Atom::Class { name: one, arg: X },
+                Atom::Class {
+                    name: other,
+                    arg: X,
+                },
+            ];
+            told_of(
+                alloc,
+                extensions,
+                CqRef {
+                    answer: &[X],
+                    atoms: &atoms,
+                },
+            )
+        }
+        Asked::Steps(class, role) => {
+            let (class, role) = (Name(class), Name(role));
+            let atoms = [
+                Atom::Class {
+                    name: class,
+                    arg: X,
+                },
+                Atom::Role {
+                    name: role,
+                    from: X,
+                    to: Y,
+                },
+                Atom::Class {
+                    name: class,
+                    arg: Y,
+                },
+            ];
+            told_of(
+                alloc,
+                extensions,
+                CqRef {
+                    answer: &[X],
+                    atoms: &atoms,
+                },
+            )
+        }
     }
 }
 
@@ -341,5 +425,130 @@ fn rows_that_are_not_given_give_nothing(rt: HostRuntime) -> Result<(), Fail> {
         found(rt.alloc(), over, Some(&only[..1]), Wanted::AllHits, asked)?.as_str(),
         ""
     );
+    Ok(())
+}
+
+const STUDENTS: &str =
+    "SubClassOf(:Student ObjectSomeValuesFrom(:attends owl:Thing)) ObjectPropertyRange(:attends :Course)";
+
+const STUDENT: &str = "Table(s \"s.csv\" Column(id integer))
+Map(\"SELECT id FROM s\" Class(:Student Obj(p id)))";
+
+// Axioms, mappings, the file of the table, a query, and its tuples and hits.
+static WORKED: [(&str, &str, &str, Asked, &str); 8] = [
+    // who has a boss and who manages are employees, and no one is boss where the cell is missing
+    (
+        "SubClassOf(:Manager :Employee) ObjectPropertyDomain(:hasBoss :Employee)",
+        "Table(t \"t.csv\" Column(id integer) Column(boss integer Null))
+Map(\"SELECT id, boss FROM t\" Role(:hasBoss Obj(p id) Obj(p boss)))
+Map(\"SELECT boss FROM t\" Class(:Manager Obj(p boss)))",
+        "id,boss\n1,2\n3,\n",
+        Asked::Members(1),
+        "p(1) ; p(2) ; | p(1) 0:1 ; p(2) 0:1 ; ",
+    ),
+    // a course without a name is enough where none is asked for, and no answer where it is
+    (
+        STUDENTS,
+        STUDENT,
+        "id\n1\n",
+        Asked::Subjects(0),
+        "p(1) ; | p(1) 0:1 ; ",
+    ),
+    (STUDENTS, STUDENT, "id\n1\n", Asked::Pairs(0), "| "),
+    // one variable twice
+    (
+        "",
+        STEPS,
+        "a,b\n1,2\n3,3\n",
+        Asked::Loops(0),
+        "o(3) ; | o(3) 0:2 ; ",
+    ),
+    // each row supports the first class, and one of them the second
+    (
+        "",
+        "Table(t \"t.csv\" Column(a integer) Column(k text))
+Map(\"SELECT a FROM t\" Class(:B Obj(o a)))
+Map(\"SELECT a FROM t WHERE k = 'c'\" Class(:C Obj(o a)))",
+        "a,k\n1,b\n1,c\n1,b\n",
+        Asked::Common(0, 1),
+        "o(1) ; | o(1) 0:1 0:2 ; o(1) 0:2 ; o(1) 0:2 0:3 ; ",
+    ),
+    // missing cells are no objects that meet
+    (
+        "",
+        "Table(t \"t.csv\" Column(a integer Null) Column(b integer Null))
+Map(\"SELECT a, b FROM t\" Role(:r Obj(o a) Obj(o b)))",
+        "a,b\n1,\n,2\n",
+        Asked::Chain(0),
+        "| ",
+    ),
+    // nor are objects of two symbols
+    (
+        "",
+        "Table(t \"t.csv\" Column(a integer) Column(b integer))
+Map(\"SELECT a, b FROM t\" Role(:r Obj(o a) Obj(p b)))",
+        "a,b\n1,2\n2,3\n",
+        Asked::Chain(0),
+        "| ",
+    ),
+    // a constant that a map gives is that of a cell
+    (
+        "",
+        "Table(t \"t.csv\" Column(a integer) Column(b integer))
+Map(\"SELECT a FROM t\" Role(:r Obj(o a) Obj(o Int(2))))",
+        "a,b\n1,1\n2,2\n",
+        Asked::Chain(0),
+        "o(1) o(2) ; o(2) o(2) ; | o(1) o(2) 0:1 0:2 ; o(2) o(2) 0:2 ; ",
+    ),
+];
+
+#[test]
+fn worked_queries_have_their_tuples_and_hits(rt: HostRuntime) -> Result<(), Fail> {
+    for (axioms, maps, file, asked, want) in &WORKED {
+        assert_eq!(rt;
+            both(rt.alloc(), (axioms, maps, file), *asked)?.as_str(),
+            *want,
+            "{maps}"
+        );
+    }
+    Ok(())
+}
+
+// A class and a role with so many below each, and a map for each of these, over a table with a row for each.
+fn wide(alloc: Global, count: u32) -> Result<(String, String, String), NoMemory> {
+    let mut axioms = String::new(alloc);
+    let mut maps = String::from_str(
+        alloc,
+        "Table(t \"t.csv\" Column(a integer) Column(b integer))\n",
+    )?;
+    let mut file = String::from_str(alloc, "a,b\n")?;
+    for row in 0..count {
+        write!(
+            axioms,
+            "SubClassOf(:S{row} :S) SubObjectPropertyOf(:r{row} :r)\n"
+        )?;
+        write!(
+            maps,
+            "Map(\"SELECT a FROM t WHERE a = {row}\" Class(:S{row} Obj(p a)))\n"
+        )?;
+        write!(
+            maps,
+            "Map(\"SELECT a, b FROM t WHERE a = {row}\" Role(:r{row} Obj(p a) Obj(p b)))\n"
+        )?;
+        let next = row + 1;
+        write!(file, "{row},{next}\n")?;
+    }
+    Ok((axioms, maps, file))
+}
+
+#[test]
+fn three_atoms_of_a_thousand_sources(rt: HostRuntime) -> Result<(), Fail> {
+    let alloc = rt.alloc();
+    let (axioms, maps, file) = wide(alloc, 1000)?;
+    let over = (axioms.as_str(), maps.as_str(), file.as_str());
+    let text = found(alloc, over, None, Wanted::Tuples, Asked::Steps(1, 1))?;
+    assert!(rt; text.as_str().starts_with("p(0) ; p(1) ; p(10) ; p(100) ; "));
+    // all but the last, of which the next is in no class: 999 with 10, 180 and 2,697 digits
+    assert_eq!(rt; text.len(), 999 * 6 + 10 + 180 + 2697);
     Ok(())
 }

@@ -37,10 +37,10 @@ fn declared(alloc: Global, name: &str, columns: &[&str; 3]) -> Result<TableDecl,
 pub(crate) fn loaded(alloc: Global, decl: &TableDecl, file: &str) -> Result<Table, NoMemory>
     ensures { IfOk result (AreLoaded decl.now) }
 {
-    if file.len() > 1000 || decl.columns.as_slice().len() > 3 {
+    if file.len() > 100_000 || decl.columns.as_slice().len() > 3 {
         return Err(NoMemory);
     }
-    match load(alloc, file.as_bytes(), decl, 100) {
+    match load(alloc, file.as_bytes(), decl, 1000) {
         Ok(table) => Ok(table),
         Err(_) => Err(NoMemory),
     }

@@ -1,4 +1,4 @@
--- No map is left, so the heads of all are 1,000 at most.
+-- No map is left, so the heads of all are 2,000 at most.
 use Rattle.std.proofs.Common.{ap, arith}
 use Rattle.std.proofs.lemmas.List.{drop_all}
 use Rattle.mast_canon_tests.proofs.HeadLemmas.{heads_of, split_length}
