@@ -139,7 +139,7 @@ fn joined(alloc: Global, lines: &[String]) -> Result<String, NoMemory> {
     Ok(all)
 }
 
-static QUERIES: [(&str, &str); 13] = [
+static QUERIES: [(&str, &str); 14] = [
     ("SELECT p.name FROM people p", "1; 2; 3; 4; 5; "),
     ("SELECT p.name FROM people p WHERE p.age <> 41", "1; 5; "),
     (
@@ -155,6 +155,10 @@ static QUERIES: [(&str, &str); 13] = [
         "1; 5; ",
     ),
     ("SELECT p.name FROM people p WHERE 1 = 2", ""),
+    (
+        "SELECT p.name FROM people p WHERE p.age = p.age",
+        "1; 2; 4; 5; ",
+    ),
     (
         "SELECT p.name FROM people p, posts q WHERE p.name = q.who",
         "1;1; 1;5; 2;3; 3;2; 5;1; 5;5; ",
