@@ -29,6 +29,7 @@ ready_pushed e [] (s ∷ readies) q r z i = absurd z
 ready_pushed e (p ∷ queries) [] q r z i = absurd z
 ready_pushed e (p ∷ queries) (s ∷ readies) q r z i = (z.0, ready_pushed e queries readies q r z.1 i)
 
+-- queries that are ready stay so with one more
 pub ready_more : (old new : Extended) (done more : List Cq) (readies all : List Ready) (q : Cq) (r : Ready) → KeepsReady old new → AreReady old done readies → IsReadyAs new q r
     → more ≡ done ++ q ∷ [] → all ≡ readies ++ r ∷ [] → AreReady new more all
 ready_more old new done more readies all q r k z i e f =
@@ -82,6 +83,7 @@ asked_next P f [] i h = tt
 asked_next P f (x ∷ xs) zero h = h.1
 asked_next P f (x ∷ xs) (suc i) h = asked_next P f xs i h
 
+-- and so may those behind it, one place further
 pub asked_rest : {X : Type 0} (P : Cq → Type 0) (f : X → Cq) (xs : List X) (i : ℕ) → AllByRecursion P (map f (drop i xs)) → AllByRecursion P (map f (drop (i + 1) xs))
 asked_rest P f xs i h = rw add-one (asked_next P f xs i h)
 

@@ -63,6 +63,7 @@ pub record ReadyOf (e : Extended) (readies : List Ready) (q : Cq) : Type 0 where
   pub stands : slice_get readies place ≡ Some ready
   pub are : IsReadyAs e q ready
 
+-- each query has what is ready of it
 pub ready_of : (e : Extended) (queries : List Cq) (readies : List Ready) → AreReady e queries readies → (q : Cq) → In q queries → ReadyOf e readies q
 ready_of e [] readies z q i = absurd i
 ready_of e (q' ∷ queries) [] z q i = absurd z
