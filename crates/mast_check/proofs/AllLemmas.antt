@@ -138,3 +138,10 @@ all_breaches spec vocab tables list t = record {
       t.all w.violation w.stands rows w.breached
       );
 }
+
+-- so it is of what is answered
+pub all_breaches_told : {E : Type 0} (spec : Spec) → IsVocabulary spec.vocab → (tables : List (List Row)) (o : Over) → o ≡ over_of spec tables None → (list : List Violation) → list ≡ violations_of (theory_of spec)
+    → (result : Result (List Breach) E) → IfOk result (TellsBreaches spec o list) → IfOk result (AreAllBreaches spec tables)
+all_breaches_told spec vocab tables o same list lists (Ok found) t =
+    all_breaches spec vocab tables found (subst (λ p. TellsBreaches spec p (violations_of (theory_of spec)) found) same (subst (λ vs. TellsBreaches spec o vs found) lists t))
+all_breaches_told spec vocab tables o same list lists (Err e) t = tt

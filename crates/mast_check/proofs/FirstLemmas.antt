@@ -3,6 +3,7 @@ use Rattle.std.proofs.Common.{◌≡◌, ◌↔◌, true, false, List, [], ◌�
 use Rattle.std.proofs.lemmas.Bool.{true≢false, false≢true}
 use Rattle.std.specs.List.{AllByRecursion}
 use Rattle.std.specs.Option.{IfSome}
+use Rattle.std.specs.Prelude.{Result, Ok, Err, IfOk}
 use Rattle.mast_terms.specs.Vocabularies.{IsVocabulary}
 use Rattle.mast_cq.specs.Queries.{In}
 use Rattle.mast_cq.proofs.ListLemmas.{append_right, each_in}
@@ -92,3 +93,17 @@ module _ (spec : Spec) (vocab : IsVocabulary spec.vocab) (tables : List (List Ro
   pub exact_model : (found : Option Breach) → TellsModel spec tables only found → IfSome found (IsOfFirst spec tables only) → (found ≡ None) ↔ (HasNoModelOver spec tables only → ⊥)
   exact_model None t f = (λ e. t, λ k. refl)
   exact_model (Some breach) t f = (λ e. absurd (cc), λ k. absurd (k (no_model breach f)))
+
+  module _ (o : Over) (same : o ≡ over) (list : List Violation) (lists : list ≡ violations_of (theory_of spec)) where
+    first_of_list : (found : Option Breach) → TellsFirstBreach spec o list found → TellsFirstBreach spec over (violations_of (theory_of spec)) found
+    first_of_list found t = subst (λ p. TellsFirstBreach spec p (violations_of (theory_of spec)) found) same (subst (λ vs. TellsFirstBreach spec o vs found) lists t)
+
+    -- what is answered of the violation list tells of models
+    pub model_told : {E : Type 0} → (result : Result (Option Breach) E) → IfOk result (TellsFirstBreach spec o list) → IfOk result (TellsModel spec tables only)
+    model_told (Ok found) t = tells_model found (first_of_list found t)
+    model_told (Err e) t = tt
+
+    -- and which violation a breach is of
+    pub first_told : {E : Type 0} → (result : Result (Option Breach) E) → IfOk result (TellsFirstBreach spec o list) → IfOk result (λ found. IfSome found (IsOfFirst spec tables only))
+    first_told (Ok found) t = tells_first found (first_of_list found t)
+    first_told (Err e) t = tt

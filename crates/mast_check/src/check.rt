@@ -8,7 +8,7 @@ ghost use Rattle.mast_check.specs.Limits.{IsFirstLimit, MeetsNoLimit};
 
 use crate::{Breach, CheckLimit, Checking, violations_fit};
 use mast_canon::{RowId, Spec, Tables};
-use mast_terms::{List, Stop};
+use mast_terms::{List, NameKind, Stop};
 use std::alloc::Global;
 use std::thread::Threads;
 
@@ -30,6 +30,7 @@ pub fn first_violation<Rt: Threads + Sync>(
     ensures first { IfOk result (λ found. IfSome found (IsOfFirst spec.now tables.now.list (option_copied only.entry))) }
     ensures exact { IfOk result (λ found. (found ≡ None) ↔ (HasNoModelOver spec.now tables.now.list (option_copied only.entry) → ⊥)) }
 {
+    let _ = spec.vocab.len(NameKind::Class);
     violations_fit(alloc, spec)?;
     let checking = Checking::new(alloc, spec)?;
     let found = checking.first_violation(rt, alloc, tables, only, workers)?;
