@@ -1,11 +1,10 @@
 -- All breaches: of the rows of a set, row by row, and of the violations of a list, violation by violation.
-use Rattle.std.proofs.Common.{◌≡◌, ℕ, Bool, true, false, List, [], ◌∷◌, ◌++◌, Option, Some, None, ◌⊎◌, inl, inr, refl, sym, ap, ◌∙◌, subst, append_assoc, append-nil}
-use Rattle.std.proofs.lemmas.Bool.{true≢false, false≢true}
+use Rattle.std.proofs.Common.{◌≡◌, ℕ, Bool, true, false, List, [], ◌∷◌, ◌++◌, None, inl, inr, refl, sym, ap, ◌∙◌, subst, append_assoc, append-nil}
+use Rattle.std.proofs.lemmas.Bool.{true≢false}
 use Rattle.std.specs.Prelude.{Result, Ok, Err, IfOk}
 use Rattle.std.specs.List.{AllByRecursion}
 use Rattle.mast_terms.specs.Vocabularies.{IsVocabulary}
-use Rattle.mast_cq.specs.Queries.{In}
-use Rattle.mast_cq.proofs.ListLemmas.{append_left, append_right, each_in, in_each}
+use Rattle.mast_cq.proofs.ListLemmas.{append_left, append_right}
 use Rattle.mast_tables.specs.Rows.{Row}
 use Rattle.mast_canon.specs.declared.rows.RowId.{RowId}
 use Rattle.mast_canon.specs.declared.spec.Spec.{Spec}

@@ -1,12 +1,11 @@
 -- Members of the closure of a query that is in range are in range.
-use Rattle.std.proofs.Common.{◌≡◌, ℕ, ◌<◌, List, [], ◌∷◌, ◌⊎◌, inl, inr, refl, sym, subst}
-use Rattle.std.specs.List.{AllByRecursion}
+use Rattle.std.proofs.Common.{ℕ, List, [], ◌∷◌, inl, inr, refl, sym, subst}
 use Rattle.mast_cq.specs.declared.atom.Arg.{Arg}
 use Rattle.mast_cq.specs.declared.atom.Arg.TheVariants.{Blank, Var, Constant}
 use Rattle.mast_cq.specs.declared.atom.Atom.{Atom}
 use Rattle.mast_cq.specs.declared.query.Cq.{Cq}
-use Rattle.mast_cq.specs.NormalForms.{normal_form, Occurs}
-use Rattle.mast_cq.specs.Origins.{KnownQuery, SomeAtom}
+use Rattle.mast_cq.specs.NormalForms.{Occurs}
+use Rattle.mast_cq.specs.Origins.{SomeAtom}
 use Rattle.mast_cq.specs.Queries.{In}
 use Rattle.mast_cq.specs.Steps.{merged}
 use Rattle.mast_cq.specs.UnifierMeanings.{IsBelow, KnownArg}

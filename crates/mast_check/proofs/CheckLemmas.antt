@@ -1,5 +1,5 @@
 -- Where no row of the members of its closure passes, a violation is not breached; and a row that passes is a breach.
-use Rattle.std.proofs.Common.{◌≡◌, ℕ, zero, suc, ◌+◌, ◌<◌, Bool, true, false, List, [], ◌∷◌, ◌++◌, length, drop, get_or, Contains, Option, Some, None, is_some, slice_get, ◌⊎◌, inl, inr, refl, sym, ap, ◌∙◌, subst, add-one, arith}
+use Rattle.std.proofs.Common.{◌≡◌, ℕ, zero, suc, ◌+◌, ◌<◌, true, false, List, [], ◌∷◌, ◌++◌, length, drop, get_or, Contains, Option, Some, None, is_some, slice_get, inl, inr, refl, sym, ap, ◌∙◌, subst, add-one, arith}
 use Rattle.std.proofs.lemmas.Bool.{true≢false, false≢true}
 use Rattle.std.specs.List.{AllByRecursion, AllZip}
 use Rattle.mast_terms.specs.declared.term.Term.{Term}
@@ -7,25 +7,21 @@ use Rattle.mast_terms.specs.Vocabularies.{IsVocabulary}
 use Rattle.mast_cq.specs.declared.atom.Atom.{Atom}
 use Rattle.mast_cq.specs.declared.query.Cq.{Cq}
 use Rattle.mast_cq.specs.Queries.{In, viewed}
-use Rattle.mast_cq.proofs.ListLemmas.{each_in, in_each, in_append}
+use Rattle.mast_cq.proofs.ListLemmas.{each_in, in_each}
 use Rattle.mast_tables.specs.Rows.{Row}
-use Rattle.mast_tbox.specs.declared.axiom.Inclusion.{Inclusion}
-use Rattle.mast_tbox.specs.Inclusions.{normal}
 use Rattle.mast_canon.specs.declared.rows.RowId.{RowId}
 use Rattle.mast_canon.specs.declared.spec.Spec.{Spec}
 use Rattle.mast_canon.specs.CertainAnswers.{Certain, HasThrough, MetThrough, ThroughDown}
-use Rattle.mast_canon.specs.ConflictLaws.{HaveNoModel, IsAmong}
-use Rattle.mast_canon.specs.Facts.{HaveSameRows, IsOfTables}
-use Rattle.mast_canon.specs.NoModels.{By, NoModel}
+use Rattle.mast_canon.specs.ConflictLaws.{IsAmong}
+use Rattle.mast_canon.specs.Facts.{IsOfTables}
 use Rattle.mast_canon.specs.SpecFacts.{FactsOf}
-use Rattle.mast_canon.specs.Theories.{Theory, theory_of, stated, constant_of}
+use Rattle.mast_canon.specs.Theories.{Theory, theory_of}
 use Rattle.mast_canon.proofs.OverLemmas.{each_append}
 use Rattle.mast_canon.proofs.SupportLemmas.{support_lies}
-use Rattle.mast_join.specs.declared.extensions.Wanted.{Wanted}
 use Rattle.mast_join.specs.declared.extensions.Wanted.TheVariants.{SomeHits, AllHits}
 use Rattle.mast_join.specs.declared.ready.Ready.{Ready}
 use Rattle.mast_join.specs.declared.slices.Slice.{Slice}
-use Rattle.mast_join.specs.Answers.{Extended, AreNumbersOf, AreWithin, IsAsked, IsHitRow, IsReady, Tell, TellSomeHits, TellAllHits}
+use Rattle.mast_join.specs.Answers.{Extended, IsAsked, IsHitRow, IsReady, Tell, TellSomeHits, TellAllHits}
 use Rattle.mast_join.specs.Extensions.{Over, TakesPart, over_of, constant_over, HasBy, HasOver, IsPairOf, union}
 use Rattle.mast_join.specs.Slices.{AreSlices}
 use Rattle.mast_numbers.specs.Numbered.{HasOneEach}
@@ -38,13 +34,12 @@ use Rattle.mast_violate.specs.Breaches.{IsBreached, Passes, violations_of}
 use Rattle.mast_violate.proofs.BreachLemmas.{are_breaches}
 use Rattle.mast_violate.proofs.ListLemmas.{in_place, place_in}
 use Rattle.mast_check.specs.declared.breach.Breach.{Breach}
-use Rattle.mast_check.specs.Checks.{HasBreachWithin, HasNoModelOver, IsBreachOf}
-use Rattle.mast_join.specs.Hits.{IsHitOfRow}
+use Rattle.mast_check.specs.Checks.{HasBreachWithin, IsBreachOf}
 use Rattle.mast_check.specs.inside.Judging.{passes_by}
-use Rattle.mast_check.specs.inside.Pieces.{AreOfSpec, AreReady, HasBreachOfRow, IsBreachOfRow, IsBreachBy, TellsAllIn, TellsBreach, TellsBreaches, TellsFirstIn, first_there, flat, terms_of}
+use Rattle.mast_check.specs.inside.Pieces.{AreReady, HasBreachOfRow, IsBreachOfRow, IsBreachBy, TellsAllIn, TellsBreach, TellsBreaches, TellsFirstIn, first_there, flat, terms_of}
 use Rattle.mast_check.proofs.AskedLemmas.{member_asked}
 use Rattle.mast_check.proofs.FormLemmas.{spec_constants, spec_proper}
-use Rattle.mast_join.proofs.HitLemmas.{gives_long, has_over, hit_of, hit_sets, hit_terms, numbers_long, rows_within}
+use Rattle.mast_join.proofs.HitLemmas.{gives_long, has_over, hit_of, hit_sets, numbers_long, rows_within}
 use Rattle.mast_check.proofs.JudgeLemmas.{IsTestIn, passes_in, passes_out}
 use Rattle.mast_check.proofs.ToldLemmas.{HasRow, IsBreachOfOne, all_told, each_told, none_told, ready_of, some_told}
 use Rattle.mast_check.proofs.ViolationLemmas.{IsCheckable, checkable}

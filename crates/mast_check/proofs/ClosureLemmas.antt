@@ -1,5 +1,5 @@
 -- What the slices of the members of a violation's closure tell, from what the calls on the way give.
-use Rattle.std.proofs.Common.{◌≡◌, ◌↔◌, ℕ, zero, suc, ◌<◌, ◌≤◌, ◌+◌, Bool, true, false, List, [], ◌∷◌, ◌++◌, length, map, drop, get_or, slice_get, Contains, Option, Some, None, ◌⊎◌, inl, inr, refl, sym, ap, ◌∙◌, subst, add-one, arith}
+use Rattle.std.proofs.Common.{◌≡◌, ◌↔◌, ℕ, zero, suc, ◌<◌, ◌≤◌, ◌+◌, List, [], ◌∷◌, length, drop, get_or, slice_get, Contains, Option, Some, None, inl, inr, refl, sym, ap, ◌∙◌, subst, add-one, arith}
 use Rattle.std.specs.List.{AllByRecursion, AllZip}
 use Rattle.mast_terms.specs.Vocabularies.{IsVocabulary}
 use Rattle.mast_cq.specs.declared.query.Cq.{Cq}
@@ -13,7 +13,7 @@ use Rattle.mast_join.specs.declared.extensions.Wanted.TheVariants.{SomeHits, All
 use Rattle.mast_join.specs.declared.ready.Ready.{Ready}
 use Rattle.mast_join.specs.declared.slices.Slice.{Slice}
 use Rattle.mast_join.specs.Answers.{Extended, IsReady}
-use Rattle.mast_join.specs.Extensions.{Over, over_of}
+use Rattle.mast_join.specs.Extensions.{Over}
 use Rattle.mast_join.specs.Slices.{AreSlices}
 use Rattle.mast_join.proofs.CutLemmas.{slices_are_of}
 use Rattle.mast_rewrite.specs.Closures.{Closure}

@@ -1,5 +1,5 @@
 -- A specification is proper: what it keeps of its axioms and constraints is told whole.
-use Rattle.std.proofs.Common.{ℕ, ◌<◌, ◌≤◌, List, [], ◌∷◌, length, arith}
+use Rattle.std.proofs.Common.{ℕ, ◌≤◌, List, [], ◌∷◌, length, arith}
 use Rattle.std.proofs.Math.Logic.{∥∥₁_elim}
 use Rattle.std.specs.Coded.{×_prop, Π_prop, →_prop, Unit-prop, le_prop}
 use Rattle.std.specs.List.{AllByRecursion}
@@ -13,7 +13,6 @@ use Rattle.mast_cq.specs.declared.atom.Atom.TheVariants as atom
 use Rattle.mast_cq.specs.Origins.{Named}
 use Rattle.mast_cq.specs.Sorts.{EachHasOneSort}
 use Rattle.mast_cq.specs.UnifierMeanings.{IsBelow, KnownArg, KnownAtom}
-use Rattle.mast_tbox.specs.declared.axiom.Lined.{Lined}
 use Rattle.mast_tbox.specs.declared.axiom.Negative.{Negative}
 use Rattle.mast_tbox.specs.declared.axiom.Negative.TheVariants.{Concepts, Roles, Attrs, Irreflexive}
 use Rattle.mast_tbox.specs.declared.constraint.Constraint.{Constraint}
@@ -27,11 +26,11 @@ use Rattle.mast_tbox.specs.declared.expression.Prop.TheVariants as prop
 use Rattle.mast_tbox.specs.declared.expression.RoleExpr.{RoleExpr}
 use Rattle.mast_tbox.specs.declared.expression.RoleExpr.TheVariants.{Direct, Inverse}
 use Rattle.mast_tbox.specs.declared.constraint.TheConstants.{MOST_ATOMS}
-use Rattle.mast_tbox.specs.ConstraintForms.{IsAttributeLast, HasPathForm, steps_together, most_steps, HasForm, HaveForm}
+use Rattle.mast_tbox.specs.ConstraintForms.{IsAttributeLast, HasPathForm, steps_together, most_steps, HasForm}
 use Rattle.mast_tbox.specs.Lists.{items}
 use Rattle.mast_tbox.specs.Names.{IsStatable, RoleNamed, PropNamed, BasicNamed, NegativeNamed, StepNamed, ConstraintNamed}
 use Rattle.mast_tbox.specs.Restrictions.{along}
-use Rattle.mast_tbox.specs.Vocabularies.{AxiomsInRange, ConstantsStandIn, ConstraintsInRange}
+use Rattle.mast_tbox.specs.Vocabularies.{ConstantsStandIn}
 use Rattle.mast_tree.specs.Names.{StandsIn}
 use Rattle.mast_canon.specs.declared.spec.Spec.{Spec}
 use Rattle.mast_canon.specs.Theories.{theory_of}

@@ -1,6 +1,6 @@
 -- A row of numbers passes a test exactly where the tuple of their terms does.
-use Rattle.std.proofs.Common.{◌≡◌, ◌≢◌, ◌↔◌, ℕ, zero, suc, ◌<◌, Bool, true, false, not, nat_eq, eqb-true, List, [], ◌∷◌, ◌++◌, length, map, Option, Some, None, slice_get, ◌⊎◌, inl, inr, refl, sym, ap, ◌∙◌, subst, arith}
-use Rattle.std.proofs.lemmas.Bool.{true≢false, false≢true}
+use Rattle.std.proofs.Common.{◌≡◌, ◌≢◌, ℕ, zero, suc, ◌<◌, Bool, true, false, not, nat_eq, eqb-true, List, [], ◌∷◌, ◌++◌, length, Some, slice_get, refl, sym, ap, ◌∙◌, subst, arith}
+use Rattle.std.proofs.lemmas.Bool.{false≢true}
 use Rattle.mast_terms.specs.declared.term.Term.{Term}
 use Rattle.mast_terms.specs.declared.term.Term.TheVariants as term
 use Rattle.mast_terms.specs.declared.value.Kind.{Kind}
@@ -16,7 +16,6 @@ use Rattle.mast_violate.specs.declared.violation.Test.{Test}
 use Rattle.mast_violate.specs.declared.violation.Test.TheVariants.{Plain, Differ, KindNot}
 use Rattle.mast_violate.specs.Breaches.{Passes}
 use Rattle.mast_check.specs.inside.Judging.{differ, is_other, kind_there, term_there, passes_by}
-use Rattle.mast_join.proofs.HitLemmas.{number_at, numbers_long}
 
 -- the places of the test are among so many
 abbrev pub IsTestIn : ℕ → Test → Type 0

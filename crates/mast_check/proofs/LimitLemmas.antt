@@ -1,5 +1,5 @@
 -- The first limit of a theory: it is one, and there is none where it meets none.
-use Rattle.std.proofs.Common.{◌≡◌, ℕ, ◌+◌, ◌<◌, ◌≤◌, List, [], ◌∷◌, ◌++◌, length, ◌⊎◌, inl, inr, refl, sym, ap, ◌∙◌, subst, arith}
+use Rattle.std.proofs.Common.{◌≡◌, ℕ, ◌≤◌, List, [], ◌∷◌, ◌++◌, length, inl, inr, refl, sym, ap, ◌∙◌, subst, arith}
 use Rattle.std.specs.Prelude.{Result, Ok, Err}
 use Rattle.std.specs.List.{AllByRecursion}
 use Rattle.mast_terms.specs.Answers.{Answers}
@@ -9,7 +9,6 @@ use Rattle.mast_cq.specs.Queries.{In}
 use Rattle.mast_cq.proofs.ListLemmas.{each_in, append_right}
 use Rattle.mast_canon.specs.declared.origin.Origin.{Origin}
 use Rattle.mast_canon.specs.Theories.{Theory}
-use Rattle.mast_rewrite.specs.Rewritings.{most}
 use Rattle.mast_violate.specs.declared.violation.TheConstants.{MOST_VIOLATIONS}
 use Rattle.mast_violate.specs.declared.violation.Violation.{Violation}
 use Rattle.mast_violate.specs.Breaches.{violations_of}

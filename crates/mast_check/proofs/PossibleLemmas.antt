@@ -1,6 +1,6 @@
 -- Where an atom of a violation has no match, whatever its arguments, the violation is not breached.
-use Rattle.std.proofs.Common.{◌≡◌, ℕ, zero, suc, ◌<◌, Bool, true, false, List, [], ◌∷◌, ◌++◌, length, get_or, Option, Some, None, is_some, Contains, ◌⊎◌, inl, inr, refl, sym, ap, ◌∙◌, subst, arith}
-use Rattle.std.proofs.lemmas.Bool.{true≢false, false≢true}
+use Rattle.std.proofs.Common.{◌≡◌, ℕ, zero, suc, ◌<◌, Bool, true, false, List, [], ◌∷◌, ◌++◌, length, get_or, Option, Some, None, is_some, Contains, inl, inr, sym, ap, subst, arith}
+use Rattle.std.proofs.lemmas.Bool.{true≢false}
 use Rattle.std.specs.List.{AllByRecursion}
 use Rattle.std.specs.Map.{lookup}
 use Rattle.std.specs.Option.{IfSome}
@@ -9,7 +9,6 @@ use Rattle.mast_terms.specs.declared.term.Term.{Term}
 use Rattle.mast_terms.specs.Vocabularies.{IsVocabulary}
 use Rattle.mast_cq.specs.declared.atom.Atom.{Atom}
 use Rattle.mast_cq.specs.declared.atom.Atom.TheVariants.{Class, Role, Attr}
-use Rattle.mast_cq.specs.declared.query.Cq.{Cq}
 use Rattle.mast_cq.specs.Meanings.{Fact, InClass, InRole, InAttr, Match, MetBy}
 use Rattle.mast_cq.specs.Origins.{Named as HasName}
 use Rattle.mast_cq.specs.Queries.{In, viewed}
@@ -20,7 +19,7 @@ use Rattle.mast_tbox.specs.Names.{IsStatable}
 use Rattle.mast_tbox.proofs.NumberLemmas.{no_end}
 use Rattle.mast_canon.specs.declared.rows.RowId.{RowId}
 use Rattle.mast_canon.specs.declared.spec.Spec.{Spec}
-use Rattle.mast_canon.specs.CertainAnswers.{Certain, HoldsBy, MetThrough, constant_in}
+use Rattle.mast_canon.specs.CertainAnswers.{HoldsBy, MetThrough, constant_in}
 use Rattle.mast_canon.specs.Derivations.{Holds}
 use Rattle.mast_canon.specs.Elements.{Element, Named}
 use Rattle.mast_canon.specs.SpecFacts.{FactsOf}

@@ -1,9 +1,8 @@
 -- Queries that are made ready, one after another, and the rows of their slices.
-use Rattle.std.proofs.Common.{◌≡◌, ℕ, suc, zero, ◌<◌, ◌+◌, List, [], ◌∷◌, ◌++◌, length, map, take, drop, get_or, add-one, All, Contains, slice_get, Some, ◌⊎◌, inl, inr, refl, sym, ap, ◌∙◌, subst, arith}
-use Rattle.std.specs.List.{AllByRecursion, AllZip}
+use Rattle.std.proofs.Common.{◌≡◌, ℕ, suc, zero, ◌<◌, ◌+◌, List, [], ◌∷◌, ◌++◌, length, map, take, drop, get_or, add-one, inl, inr, refl, sym, ap, ◌∙◌, subst, arith}
+use Rattle.std.specs.List.{AllByRecursion}
 use Rattle.mast_cq.specs.declared.query.Cq.{Cq}
-use Rattle.mast_cq.specs.Queries.{In, viewed}
-use Rattle.mast_cq.proofs.ListLemmas.{in_each}
+use Rattle.mast_cq.specs.Queries.{viewed}
 use Rattle.mast_relations.specs.Matches.{In as Among}
 use Rattle.mast_relations.specs.Matches.{IsAnswer, Rows}
 use Rattle.mast_relations.specs.Stores.{HasOnlyGained, contents}

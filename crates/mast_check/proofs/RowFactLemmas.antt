@@ -1,5 +1,5 @@
 -- The facts of some rows are those of a list, so it is decided whether they have a model.
-use Rattle.std.proofs.Common.{◌≡◌, ℕ, zero, suc, ◌≤◌, ◌⊎◌, inl, inr, List, [], ◌∷◌, ◌++◌, length, Option, Some, None, refl, sym, ap, subst, arith}
+use Rattle.std.proofs.Common.{◌≡◌, ℕ, zero, suc, ◌≤◌, inl, inr, List, [], ◌∷◌, ◌++◌, length, Option, Some, None, refl, sym, ap, subst, arith}
 use Rattle.std.proofs.lemmas.Bool.{cases_order}
 use Rattle.std.specs.List.{AllByRecursion, AllZip}
 use Rattle.std.specs.Option.{option_to_list}
@@ -18,10 +18,10 @@ use Rattle.mast_tbox.proofs.ThroughLemmas.{dec_and}
 use Rattle.mast_canon.specs.contracts.rows.RowIdPartialEq.TheImpl as row_eq
 use Rattle.mast_canon.specs.declared.rows.RowId.{RowId}
 use Rattle.mast_canon.specs.declared.spec.Spec.{Spec}
-use Rattle.mast_canon.specs.Choices.{rows_of, IsRowNumber, chosen, IsTrueOf, Meets}
+use Rattle.mast_canon.specs.Choices.{rows_of, IsRowNumber, chosen, IsTrueOf}
 use Rattle.mast_canon.specs.ConflictLaws.{HaveNoModel, IsAmong}
 use Rattle.mast_canon.specs.FactLists.{is_true_of}
-use Rattle.mast_canon.specs.Facts.{IsFactOf, IsSupport, chosen_rows, fact_of}
+use Rattle.mast_canon.specs.Facts.{IsFactOf, chosen_rows, fact_of}
 use Rattle.mast_canon.specs.SpecFacts.{FactsOf}
 use Rattle.mast_canon.specs.Theories.{theory_of}
 use Rattle.mast_canon.specs.WorldLaws.{IsListed}

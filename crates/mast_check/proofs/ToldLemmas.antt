@@ -1,21 +1,21 @@
 -- What the slices of queries tell, told of the queries.
-use Rattle.std.proofs.Common.{◌≡◌, ℕ, zero, suc, Bool, true, false, List, [], ◌∷◌, ◌++◌, length, Option, Some, None, slice_get, ◌⊎◌, inl, inr, refl, sym, ap, ◌∙◌, subst}
+use Rattle.std.proofs.Common.{◌≡◌, ℕ, zero, suc, true, false, List, [], ◌∷◌, Option, Some, None, slice_get, inl, inr, refl, sym, subst}
 use Rattle.std.specs.List.{AllByRecursion, AllZip}
 use Rattle.mast_cq.specs.declared.query.Cq.{Cq}
-use Rattle.mast_cq.specs.Queries.{In, viewed}
+use Rattle.mast_cq.specs.Queries.{In}
 use Rattle.mast_cq.proofs.ListLemmas.{each_in, in_append, append_left, append_right}
 use Rattle.mast_relations.specs.Matches.{IsAnswer}
 use Rattle.mast_relations.specs.Matches.{In as Among}
 use Rattle.mast_relations.specs.Stores.{contents}
 use Rattle.mast_join.specs.declared.ready.Ready.{Ready}
 use Rattle.mast_join.specs.declared.slices.Slice.{Slice}
-use Rattle.mast_join.specs.Answers.{Extended, IsReady, HasInSlice}
+use Rattle.mast_join.specs.Answers.{Extended, HasInSlice}
 use Rattle.mast_join.specs.Slices.{AreSlices}
 use Rattle.mast_join.proofs.CutLemmas.{slices_are_of, slice_answer, answer_in_slice}
 use Rattle.mast_violate.specs.declared.violation.Violation.{Violation}
 use Rattle.mast_check.specs.declared.breach.Breach.{Breach}
 use Rattle.mast_check.specs.inside.Judging.{passes_by}
-use Rattle.mast_check.specs.inside.Pieces.{AreReady, HasBreachOfRow, IsBreachOfRow, IsBreachOfSome, IsReadyAs, TellsAllIn, TellsFirst, TellsFirstIn, flat, terms_of}
+use Rattle.mast_check.specs.inside.Pieces.{AreReady, HasBreachOfRow, IsBreachOfSome, IsReadyAs, TellsAllIn, TellsFirst, TellsFirstIn, flat, terms_of}
 
 -- the partner of an element in lists that go place by place
 pub record Partner {X Y : Type 0} (R : X → Y → Type 0) (ys : List Y) (x : X) : Type 0 where

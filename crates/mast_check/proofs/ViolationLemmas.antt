@@ -1,5 +1,5 @@
 -- The queries of a violation list are in range, and the places of their tests are places of their answers.
-use Rattle.std.proofs.Common.{◌≡◌, ℕ, zero, suc, ◌+◌, ◌<◌, List, [], ◌∷◌, ◌++◌, length, map, ◌⊎◌, inl, inr, refl, sym, subst, arith}
+use Rattle.std.proofs.Common.{ℕ, suc, ◌+◌, List, [], ◌∷◌, ◌++◌, length, map, inl, inr, sym, subst, arith}
 use Rattle.std.specs.List.{AllByRecursion}
 use Rattle.mast_terms.specs.declared.name.Name.{Name}
 use Rattle.mast_terms.specs.declared.value.Kind.{Kind}
@@ -27,7 +27,6 @@ use Rattle.mast_tbox.specs.declared.expression.Basic.{Basic}
 use Rattle.mast_tbox.specs.declared.expression.Basic.TheVariants.{Class as BClass, Some as BSome, Subjects}
 use Rattle.mast_tbox.specs.declared.expression.Prop.{Prop}
 use Rattle.mast_tbox.specs.declared.expression.Prop.TheVariants.{Role as PRole, Attr as PAttr}
-use Rattle.mast_tbox.specs.declared.expression.RoleExpr.{RoleExpr}
 use Rattle.mast_tbox.specs.declared.expression.RoleExpr.TheVariants.{Direct, Inverse}
 use Rattle.mast_tbox.specs.Expressions.{pair, at}
 use Rattle.mast_tbox.specs.Lists.{items}
@@ -38,7 +37,7 @@ use Rattle.mast_canon.proofs.OverLemmas.{each_append}
 use Rattle.mast_join.specs.Answers.{IsAnswerArg, IsAsked}
 use Rattle.mast_violate.specs.declared.violation.Violation.{Violation}
 use Rattle.mast_violate.specs.Breaches.{violations_of}
-use Rattle.mast_violate.specs.Patterns.{subject, filler, negative_pattern, leads_to, walk, end_of, both_walks, all_walks, identified_pattern, two_fillers}
+use Rattle.mast_violate.specs.Patterns.{subject, filler, negative_pattern, leads_to, walk, end_of, both_walks, all_walks, two_fillers}
 use Rattle.mast_violate.specs.ViolationLists.{of_negative, of_value, of_ranges, clashes, of_inclusion, of_inclusions, of_functional, of_assertion, by_constraint, of_constraint}
 use Rattle.mast_violate.proofs.ListLemmas.{of_some_line}
 use Rattle.mast_check.specs.DecidedLaws.{IsProper}

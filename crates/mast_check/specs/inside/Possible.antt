@@ -1,5 +1,5 @@
 -- Whether atoms can become true over the rows that take part, whatever their arguments.
-use Rattle.std.specs.Prelude.{◌≡◌, ℕ, Bool, true, false, List, Contains}
+use Rattle.std.specs.Prelude.{ℕ, Bool, true, false, List, Contains}
 use Rattle.std.specs.List.{AllByRecursion}
 use Rattle.mast_terms.specs.declared.term.Term.{Term}
 use Rattle.mast_cq.specs.declared.atom.Arg.TheVariants.{Blank}

@@ -1,4 +1,4 @@
-use Rattle.std.proofs.Common.{List, ℕ, [], ◌∷◌, ◌+◌, ◌<◌, ◌≤◌, length, drop, get_or, ap, sym, refl, ◌∙◌, arith}
+use Rattle.std.proofs.Common.{List, ℕ, [], ◌∷◌, ◌+◌, ◌<◌, ◌≤◌, length, drop, ap, sym, refl, ◌∙◌, arith}
 use Rattle.mast_check.specs.inside.Judging.{passes_by}
 use Rattle.mast_check.proofs.AllLemmas.{others_last, others_more}
 use Rattle.mast_check.proofs.ClosureLemmas.{drop_at, drop_end}
