@@ -21,10 +21,10 @@ use Rattle.mast_tbox.specs.declared.axiom.Inclusion.{Inclusion}
 use Rattle.mast_tbox.specs.Laws.{Decided}
 use Rattle.mast_tbox.proofs.ThroughLemmas.{dec_and, dec_as, dec_not}
 use Rattle.mast_canon.specs.CertainAnswers.{HoldsBy, Certain, constant_in}
-use Rattle.mast_canon.specs.Derivations.{FactStep, into_class, adds, ends, widens, IsSource, Holds, source, follows}
+use Rattle.mast_canon.specs.Derivations.{FactStep, Holds, source, follows}
 use Rattle.mast_canon.specs.Elements.{Element, Named, Successor, map_fact}
 use Rattle.mast_canon.specs.KeptWorlds.{OfElements}
-use Rattle.mast_canon.specs.NoModels.{By, NoModel}
+use Rattle.mast_canon.specs.NoModels.{NoModel}
 use Rattle.mast_canon.specs.Theories.{Theory, stated}
 use Rattle.mast_canon.specs.TheoryPremises.{FactsInRange, QueryInRange, IsStated}
 use Rattle.mast_canon.specs.WorldLaws.{IsListed}

@@ -1,16 +1,18 @@
 -- A specification is proper: what it keeps of its axioms and constraints is told whole.
-use Rattle.std.proofs.Common.{ℕ, ◌<◌, ◌≤◌, List, [], ◌∷◌, length, arith}
+use Rattle.std.proofs.Common.{ℕ, ◌≤◌, List, [], ◌∷◌, length, arith}
 use Rattle.std.proofs.Math.Logic.{∥∥₁_elim}
 use Rattle.std.specs.Coded.{×_prop, Π_prop, →_prop, Unit-prop, le_prop}
 use Rattle.std.specs.List.{AllByRecursion}
 use Rattle.mast_terms.specs.declared.name.NameKind.{NameKind}
 use Rattle.mast_terms.specs.declared.name.NameKind.TheVariants as kinds
 use Rattle.mast_terms.specs.Vocabularies.{Lists, IsVocabulary}
+use Rattle.mast_cq.specs.declared.atom.Arg.{Arg}
+use Rattle.mast_cq.specs.declared.atom.Arg.TheVariants as arg
 use Rattle.mast_cq.specs.declared.atom.Atom.{Atom}
 use Rattle.mast_cq.specs.declared.atom.Atom.TheVariants as atom
 use Rattle.mast_cq.specs.Origins.{Named}
 use Rattle.mast_cq.specs.Sorts.{EachHasOneSort}
-use Rattle.mast_tbox.specs.declared.axiom.Lined.{Lined}
+use Rattle.mast_cq.specs.UnifierMeanings.{IsBelow, KnownArg, KnownAtom}
 use Rattle.mast_tbox.specs.declared.axiom.Negative.{Negative}
 use Rattle.mast_tbox.specs.declared.axiom.Negative.TheVariants.{Concepts, Roles, Attrs, Irreflexive}
 use Rattle.mast_tbox.specs.declared.constraint.Constraint.{Constraint}
@@ -24,11 +26,11 @@ use Rattle.mast_tbox.specs.declared.expression.Prop.TheVariants as prop
 use Rattle.mast_tbox.specs.declared.expression.RoleExpr.{RoleExpr}
 use Rattle.mast_tbox.specs.declared.expression.RoleExpr.TheVariants.{Direct, Inverse}
 use Rattle.mast_tbox.specs.declared.constraint.TheConstants.{MOST_ATOMS}
-use Rattle.mast_tbox.specs.ConstraintForms.{IsAttributeLast, HasPathForm, steps_together, most_steps, HasForm, HaveForm}
+use Rattle.mast_tbox.specs.ConstraintForms.{IsAttributeLast, HasPathForm, steps_together, most_steps, HasForm}
 use Rattle.mast_tbox.specs.Lists.{items}
 use Rattle.mast_tbox.specs.Names.{IsStatable, RoleNamed, PropNamed, BasicNamed, NegativeNamed, StepNamed, ConstraintNamed}
 use Rattle.mast_tbox.specs.Restrictions.{along}
-use Rattle.mast_tbox.specs.Vocabularies.{AxiomsInRange, ConstraintsInRange}
+use Rattle.mast_tbox.specs.Vocabularies.{ConstantsStandIn}
 use Rattle.mast_tree.specs.Names.{StandsIn}
 use Rattle.mast_canon.specs.declared.spec.Spec.{Spec}
 use Rattle.mast_canon.specs.Theories.{theory_of}
@@ -170,3 +172,23 @@ spec_proper spec v =
       formed = each_weaker Form HasForm from_form (items spec.constraints)
           (∥∥₁_elim spec.formed (each_prop Form form_prop (items spec.constraints)) (λ h. each_weaker HasForm Form to_form (items spec.constraints) h));
     }
+
+-- constants in range
+constant_prop : (bound : ℕ) (x : Arg) → IsProp (KnownArg (IsBelow bound) x)
+constant_prop bound arg.Blank = Unit-prop
+constant_prop bound (arg.Var n) = Unit-prop
+constant_prop bound (arg.Constant c) = hlevel le_prop
+
+known_prop : (bound : ℕ) (g : Atom) → IsProp (KnownAtom (IsBelow bound) g)
+known_prop bound (atom.Class a x) = constant_prop bound x
+known_prop bound (atom.Role a x y) = ×_prop (constant_prop bound x) (constant_prop bound y)
+known_prop bound (atom.Attr a x y) = ×_prop (constant_prop bound x) (constant_prop bound y)
+
+constants_prop : (lists : Lists) (c : Constraint) → IsProp (ConstantsStandIn lists c)
+constants_prop lists (Functional p) = Unit-prop
+constants_prop lists (Identify b paths) = Unit-prop
+constants_prop lists (Deny atoms) = each_prop (KnownAtom (IsBelow (length lists.constants))) (known_prop (length lists.constants)) atoms
+
+-- the constants of a specification's constraints stand in its vocabulary
+pub spec_constants : (spec : Spec) → AllByRecursion (ConstantsStandIn spec.vocab) (items spec.constraints)
+spec_constants spec = ∥∥₁_elim spec.constraints_in_range (each_prop (ConstantsStandIn spec.vocab) (constants_prop spec.vocab) (items spec.constraints)) (λ h. h.constants)

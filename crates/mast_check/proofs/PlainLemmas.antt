@@ -1,5 +1,5 @@
 -- The queries of a violation list are plain: over names in range, with one sort for each argument, and answers that stand in atoms.
-use Rattle.std.proofs.Common.{◌≡◌, ℕ, zero, suc, ◌+◌, Bool, true, false, List, [], ◌∷◌, ◌++◌, length, map, ◌⊎◌, inl, inr, Contains, refl, sym, ap, ◌∙◌, subst}
+use Rattle.std.proofs.Common.{◌≡◌, ℕ, zero, suc, ◌+◌, Bool, true, false, List, [], ◌∷◌, ◌++◌, length, map, inl, inr, Contains, refl, sym, ap, ◌∙◌, subst}
 use Rattle.std.specs.List.{AllByRecursion}
 use Rattle.std.proofs.lemmas.List.Elements.{Contains-append_left}
 use Rattle.mast_terms.specs.declared.name.Name.{Name}
@@ -32,19 +32,19 @@ use Rattle.mast_tbox.specs.declared.expression.RoleExpr.TheVariants.{Direct, Inv
 use Rattle.mast_tbox.specs.ConstraintForms.{HasForm}
 use Rattle.mast_tbox.specs.Expressions.{pair, at}
 use Rattle.mast_tbox.specs.Lists.{items}
-use Rattle.mast_tbox.specs.Names.{IsStatable, RoleNamed, PropNamed, BasicNamed, NegativeNamed, StepNamed, ConstraintNamed}
+use Rattle.mast_tbox.specs.Names.{IsStatable, PropNamed, BasicNamed, NegativeNamed, StepNamed, ConstraintNamed}
 use Rattle.mast_tbox.specs.Restrictions.{along}
 use Rattle.mast_tbox.proofs.MemberLemmas.{front, later, map_in as item_in}
 use Rattle.mast_canon.specs.Theories.{Theory, stated}
 use Rattle.mast_canon.proofs.OverLemmas.{each_append}
 use Rattle.mast_violate.specs.declared.violation.Violation.{Violation}
 use Rattle.mast_violate.specs.Breaches.{violations_of}
-use Rattle.mast_violate.specs.Patterns.{subject, filler, negative_pattern, value_pattern, shared_value, two_fillers, and_fillers, leads_to, new_after, walk, end_of, both_walks, all_walks, identified_pattern}
+use Rattle.mast_violate.specs.Patterns.{subject, filler, negative_pattern, value_pattern, shared_value, two_fillers, and_fillers, leads_to, walk, end_of, both_walks, all_walks}
 use Rattle.mast_violate.specs.ViolationLists.{of_negative, of_value, of_ranges, clashes, of_inclusion, of_inclusions, of_functional, of_assertion, by_constraint, of_constraint}
 use Rattle.mast_violate.proofs.ListLemmas.{clashes_are, of_some_line}
 use Rattle.mast_check.specs.DecidedLaws.{IsProper}
 use Rattle.mast_check.proofs.CandidateLemmas.{HasVar, IsAsked, IsPlain}
-use Rattle.mast_check.proofs.SortLemmas.{HasSort, IsSortedBy, one_sort, role_sorted, at_sorted, identified_sorts}
+use Rattle.mast_check.proofs.SortLemmas.{HasSort, one_sort, role_sorted, at_sorted, identified_sorts}
 
 -- names of patterns
 abbrev IsKnown : Atom → Type 0

@@ -1,1 +1,4 @@
 pub mod DecidedLaws
+pub mod Limits
+pub mod Checks
+pub mod inside
