@@ -186,6 +186,7 @@ pub record IsOfSets (e : Extended) (q : Cq) (hit : Hit) (tuple : List Term) (set
   pub has : HasBy e.over q hit.terms sets
   pub rows : HaveSameRows hit.rows (union sets)
 
+-- the hit of a row has the terms and the rows that the row stands for
 pub hit_of : (e : Extended) (q : Cq) (row : List ℕ) (h : IsHitRow e q row) (hit : Hit) → IsHitOfRow e (length q.answer) row hit → IsOfSets e q hit h.tuple h.sets
 unfolding hit_numbers
 hit_of e q row h hit i =
