@@ -1,10 +1,10 @@
 -- Parts of a run have one end each, and so have they one after the other.
 use Rattle.std.proofs.Common.{◌≡◌, ◌⊎◌, inl, inr, List, ℕ, [], ◌∷◌, ◌++◌, Option, Some, None, subst, sym, ap, ◌∙◌, refl}
 use Rattle.std.proofs.lemmas.Option.{none-some, same_Some}
-use Rattle.std.specs.Prelude.{option_map}
+use Rattle.std.specs.Prelude.{⊤, option_map}
 use Rattle.std.specs.Option.{option_or}
 use Rattle.mast_write.specs.declared.refusals.Refusal.{Refusal}
-use Rattle.mast_cli.specs.FirstEvent.{Trail, first_event, IsJudgedIn, Reads, Then}
+use Rattle.mast_cli.specs.FirstEvent.{Trail, first_event, IsJudgedIn, Reads, Weighs, fine, stopped, Then, Made, Weighed}
 
 -- a part of a run has one end: its stages, with what it read or an event
 pub record HasOneEnd {A : Type 0} (P : Trail → Option A → Type 0) : Type 0 where
@@ -73,22 +73,49 @@ module _ {A : Type 0} (name : List ℕ) (HasEvent : Refusal → Type 0) (Has : A
     loud = λ s h. (h.0, ap first_event h.2);
   }
 
+-- a stage that weighs
+
+module _ (HasEvent : Refusal → Type 0) (IsRight : Type 0) where
+  weighs_some : IsRight ⊎ ((event : Refusal) × HasEvent event) → (stages : Trail) × (end : Option ⊤) × Weighs HasEvent IsRight stages end
+  weighs_some (inl h) = (fine ∷ [], Some tt, (h, refl))
+  weighs_some (inr h) = (stopped h.0 ∷ [], None, (h.0, h.1, refl))
+
+  abbrev stopped_at : Refusal → Trail
+  stopped_at event = stopped event ∷ []
+
+  weighs_one : ((event : Refusal) → IsRight → HasEvent event → ⊥) → ((e f : Refusal) → HasEvent e → HasEvent f → e ≡ f)
+      → (s t : Trail) (x y : Option ⊤) → Weighs HasEvent IsRight s x → Weighs HasEvent IsRight t y → (s ≡ t) × (x ≡ y)
+  weighs_one not one_e s t None None h g = (h.2 ∙ ap stopped_at (one_e h.0 g.0 h.1 g.1) ∙ sym g.2, refl)
+  weighs_one not one_e s t None (Some y) h g = absurd (not h.0 g.0 h.1)
+  weighs_one not one_e s t (Some x) None h g = absurd (not g.0 h.0 g.1)
+  weighs_one not one_e s t (Some x) (Some y) h g = (h.1 ∙ sym g.1, refl)
+
+  -- a stage that weighs has one end, if it has one event or all is right
+  pub one_weighs : IsRight ⊎ ((event : Refusal) × HasEvent event) → ((event : Refusal) → IsRight → HasEvent event → ⊥)
+      → ((e f : Refusal) → HasEvent e → HasEvent f → e ≡ f) → HasOneEnd (Weighs HasEvent IsRight)
+  one_weighs either not one_e = record {
+    some = weighs_some either;
+    one = weighs_one not one_e;
+    quiet = λ s x h. ap first_event h.1;
+    loud = λ s h. (h.0, ap first_event h.2);
+  }
+
 -- two parts
 
-module _ {A B : Type 0} (First : Trail → Option A → Type 0) (Next : A → Trail → Option B → Type 0) (first : HasOneEnd First) (next : (x : A) → HasOneEnd (Next x)) where
+module _ {A B : Type 0} (First : Trail → Option A → Type 0) (Next : A → Trail → Option B → Type 0) (first : HasOneEnd First) (next : (s : Trail) (x : A) → First s (Some x) → HasOneEnd (Next x)) where
   next_some : (x : A) (s t : Trail) (end : Option B) → First s (Some x) → Next x t end → (stages : Trail) × (end : Option (A × B)) × Then First Next stages end
   next_some x s t None h g = (s ++ t, None, inr (x, s, t, h, g, refl))
   next_some x s t (Some y) h g = (s ++ t, Some (x, y), (s, t, h, g, refl))
 
   then_some : (s : Trail) (end : Option A) → First s end → (stages : Trail) × (end : Option (A × B)) × Then First Next stages end
   then_some s None h = (s, None, inl h)
-  then_some s (Some x) h = let rest = (next x).some in next_some x s rest.0 rest.1 h rest.2
+  then_some s (Some x) h = let rest = (next s x h).some in next_some x s rest.0 rest.1 h rest.2
 
   parts_one : (b c s t : Trail) (x z : A) (e f : Option B) → First b (Some x) → First c (Some z) → Next x s e → Next z t f → (b ++ s ≡ c ++ t) × (x ≡ z) × (e ≡ f)
   parts_one b c s t x z e f h k g l =
       let front = first.one b c (Some x) (Some z) h k in
       let same : x ≡ z = same_Some x z front.1 in
-      let rest = (next x).one s t e f g (subst (λ w. Next w t f) (sym same) l) in
+      let rest = (next b x h).one s t e f g (subst (λ w. Next w t f) (sym same) l) in
       (ap (λ (w : Trail). w ++ s) front.0 ∙ ap (λ (w : Trail). c ++ w) rest.0, same, rest.1)
 
   then_one : (s t : Trail) (x y : Option (A × B)) → Then First Next s x → Then First Next t y → (s ≡ t) × (x ≡ y)
@@ -108,12 +135,12 @@ module _ {A B : Type 0} (First : Trail → Option A → Type 0) (Next : A → Tr
       (h.4 ∙ same.0 ∙ sym g.4, ap (λ z. Some (z, x.1)) same.1 ∙ ap (λ z. Some (y.0, z)) second)
 
   then_quiet : (s : Trail) (x : A × B) → Then First Next s (Some x) → first_event s ≡ None
-  then_quiet s x h = ap first_event h.4 ∙ first-append h.0 h.1 (first.quiet h.0 x.0 h.2) ∙ (next x.0).quiet h.1 x.1 h.3
+  then_quiet s x h = ap first_event h.4 ∙ first-append h.0 h.1 (first.quiet h.0 x.0 h.2) ∙ (next h.0 x.0 h.2).quiet h.1 x.1 h.3
 
   then_loud : (s : Trail) → Then First Next s None → (event : Refusal) × (first_event s ≡ Some event)
   then_loud s (inl h) = first.loud s h
   then_loud s (inr h) =
-      let rest = (next h.0).loud h.2 h.4 in
+      let rest = (next h.1 h.0 h.3).loud h.2 h.4 in
       (rest.0, ap first_event h.5 ∙ first-append h.1 h.2 (first.quiet h.1 h.0 h.3) ∙ rest.1)
 
   -- two parts one after the other have one end
@@ -142,10 +169,18 @@ module _ {A B : Type 0} (P : Trail → Option A → Type 0) (f : A → B) (part 
       (same.0, e ∙ ap (option_map f) same.1 ∙ sym k)
 
   -- it has one end too
-  pub one_made : HasOneEnd (λ stages end. (read : Option A) × P stages read × (end ≡ option_map f read))
+  pub one_made : HasOneEnd (Made f P)
   one_made = record {
     some = (part.some.0, option_map f part.some.1, (part.some.1, part.some.2, refl));
     one = λ s t x y h g. made_one s t x y h.0 g.0 h.1 g.1 h.2 g.2;
     quiet = λ s x h. made_quiet s x h.0 h.1 h.2;
     loud = λ s h. made_loud s h.0 h.1 h.2;
   }
+
+-- a part and then a stage that weighs what it read
+
+module _ {A : Type 0} (P : Trail → Option A → Type 0) (HasEvent : A → Refusal → Type 0) (IsRight : A → Type 0) (part : HasOneEnd P)
+    (weighs : (s : Trail) (x : A) → P s (Some x) → HasOneEnd (Weighs (HasEvent x) (IsRight x))) where
+  -- they have one end
+  pub one_weighed : HasOneEnd (Weighed P HasEvent IsRight)
+  one_weighed = one_made (Then P (λ x. Weighs (HasEvent x) (IsRight x))) (λ both. both.0) (one_then P (λ x. Weighs (HasEvent x) (IsRight x)) part weighs)

@@ -1,3 +1,5 @@
+mod ArgumentsLemmas
+mod CheckLemmas
 mod ChoiceLemmas
 mod DocumentLemmas
 mod EventLemmas
@@ -6,12 +8,15 @@ mod FactsTextLemmas
 mod FirstEventLemmas
 mod ListLemmas
 mod LoadingLemmas
+mod MadeLemmas
 mod MapLemmas
 mod MappingsLemmas
 mod OutcomeLemmas
+mod PartsLemmas
+mod RunLemmas
 mod SizeLemmas
+mod SpecificationLemmas
 mod StageLemmas
 mod TablesLemmas
 mod TellingLemmas
 mod TokensLemmas
-mod WordsLemmas

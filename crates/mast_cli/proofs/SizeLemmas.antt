@@ -34,7 +34,9 @@ use Rattle.mast_mapping.specs.OverTables.{column_names, table_names}
 use Rattle.mast_mapping.specs.Readings.{Texts}
 use Rattle.mast_mapping.specs.Split.{split_heads, split_maps}
 use Rattle.mast_canon.specs.Conditions.{HasNumbers, TablesHaveNumbers, places}
-use Rattle.mast_cli.specs.stage.Document.{nothing_named}
+use Rattle.mast_constr.specs.Whole.{HasConstraints}
+use Rattle.mast_tbox.specs.declared.constraint.Constraints.{Constraints}
+use Rattle.mast_tbox.specs.Lists.{AreEach}
 
 -- split mappings
 
@@ -286,9 +288,9 @@ all_below [] n less all = tt
 all_below (table ∷ tables) n less all = (let few = all.0 in omega (few, less, arith), all_below tables n less all.1)
 
 -- places in mappings have numbers of 32 bits, where the tokens of the document have
-pub have_numbers : (doc : Document) (m : Mappings) → IsTree doc.tokens doc.items → length doc.tokens < places → HasMappings doc nothing_named m
+pub have_numbers : (doc : Document) (old : Lists) (m : Mappings) → IsTree doc.tokens doc.items → length doc.tokens < places → HasMappings doc old m
     → TablesHaveNumbers m.tables × HasNumbers (split_maps m.maps)
-have_numbers doc m is less has =
+have_numbers doc old m is less has =
     let right = has.2 in
     let tree = is.0 in
     let main : main_node doc main_word (items_from 0 tree.0) ≡ Some (right.inside, right.after) = subst (λ items. main_node doc main_word items ≡ Some (right.inside, right.after)) tree.2 right.parts.main in
@@ -304,3 +306,22 @@ have_numbers doc m is less has =
       },
       omega (heads, within, arith),
     )
+
+each_long : {X Y : Type 0} (P : X → Y → Type 0) (xs : List X) (ys : List Y) → AreEach P xs ys → length ys ≡ length xs
+each_long P [] [] h = refl
+each_long P [] (y ∷ ys) h = absurd h
+each_long P (x ∷ xs) [] h = absurd h
+each_long P (x ∷ xs) (y ∷ ys) h = ap suc (each_long P xs ys h.1)
+
+-- constraints have numbers of 32 bits, where the tokens of the document have
+pub constraints_numbered : (doc : Document) (old : Lists) (cs : Constraints) → IsTree doc.tokens doc.items → length doc.tokens < places → HasConstraints doc old cs → HasNumbers cs.list
+constraints_numbered doc old cs is less has =
+    let right = has.2 in
+    let tree = is.0 in
+    let word = codes "Constraints" in
+    let main : main_node doc word (items_from 0 tree.0) ≡ Some (right.inside, right.after) = subst (λ items. main_node doc word items ≡ Some (right.inside, right.after)) tree.2 right.parts.main in
+    let few = main_few doc word right.inside right.after 0 tree.0 main in
+    let more = more_counted doc right.inside in
+    let tokens : length doc.tokens ≡ length (kinds_of tree.0) = sym (length-map doc.tokens (λ (t : Token). t.kind)) ∙ ap length tree.1 in
+    let long : length cs.list ≡ length right.inside = each_long _ right.inside cs.list right.gives in
+    omega (long, more, few, tokens, less, arith)

@@ -70,4 +70,4 @@ one_from any contents bytes rows (table ∷ tables) =
     (one_then (TableStage contents bytes rows table)
     (λ loaded. StagesFrom contents (bytes - length (contents table.file)) (rows - length loaded) tables)
     (one_table any contents bytes rows table)
-    (λ loaded. one_from any contents (bytes - length (contents table.file)) (rows - length loaded) tables))
+    (λ s loaded h. one_from any contents (bytes - length (contents table.file)) (rows - length loaded) tables))

@@ -28,6 +28,7 @@ pub ends_event : (P : Status → List ℕ → Type 0) (Q : List ℕ → Type 0) 
 ends_event P Q reading st.Done text a h = h
 ends_event P Q reading st.Usage text a h = h
 ends_event P Q reading st.Refused text a h = h
+ends_event P Q reading st.Conflict text a h = h
 ends_event P Q reading st.Limit text a h = h
 ends_event P Q reading st.ReadFault text a h = absurd a
 ends_event P Q reading st.WriteFault text a h = absurd a
@@ -42,6 +43,7 @@ pub ends_more : (P P' : Status → List ℕ → Type 0) (Q Q' : List ℕ → Typ
 ends_more P P' Q Q' reading st.Done text p q h = p st.Done text h
 ends_more P P' Q Q' reading st.Usage text p q h = p st.Usage text h
 ends_more P P' Q Q' reading st.Refused text p q h = p st.Refused text h
+ends_more P P' Q Q' reading st.Conflict text p q h = p st.Conflict text h
 ends_more P P' Q Q' reading st.Limit text p q h = p st.Limit text h
 ends_more P P' Q Q' reading st.ReadFault text p q h = (h.0, h.1, q h.0 h.2)
 ends_more P P' Q Q' reading st.WriteFault text p q h = p st.WriteFault text h
@@ -71,13 +73,12 @@ reads_ends name HasEvent Has status text h = (record { file = Some name; event =
 pub at_more : (P Q : Refusal → Type 0) → ((event : Refusal) → P event → Q event) → (status : Status) (text : List ℕ) → AtEvent P status text → AtEvent Q status text
 at_more P Q more status text h = (h.0, more h.0 h.1, h.2)
 
-module _ {A : Type 0} (name : List ℕ) (HasEvent : Refusal → Type 0) (Has : A → Type 0) (one : HasOneEnd (Reads name HasEvent Has)) where
+module _ {A : Type 0} (name : List ℕ) (HasEvent : Refusal → Type 0) (Has : A → Type 0) (some : (stages : Trail) × (end : Option A) × Reads name HasEvent Has stages end) where
   abbrev Stage : Trail → Option A → Type 0
   Stage stages end = Reads name HasEvent Has stages end
 
   pub reads_judges : (current : List ℕ) → current ≡ name → JudgesIn Stage current
   reads_judges current same =
-      let some = one.some in
       (some.0, some.1, some.2, subst (λ n. IsJudgedIn some.0 n) (sym same) (reads_judged name HasEvent Has some.0 some.1 some.2))
 
   -- the stage ends at an event that is found as the file is read, or at a fault of the file
@@ -99,7 +100,7 @@ module _ {A : Type 0} (name : List ℕ) (HasEvent : Refusal → Type 0) (Has : A
 
 -- two parts of a run
 
-module _ {A B : Type 0} (First : Trail → Option A → Type 0) (Next : A → Trail → Option B → Type 0) (first : HasOneEnd First) (next : (x : A) → HasOneEnd (Next x)) where
+module _ {A B : Type 0} (First : Trail → Option A → Type 0) (Next : A → Trail → Option B → Type 0) (first : HasOneEnd First) (next : (s : Trail) (x : A) → First s (Some x) → HasOneEnd (Next x)) where
   abbrev Both : Trail → Option (A × B) → Type 0
   Both stages end = Then First Next stages end
 
@@ -110,7 +111,7 @@ module _ {A B : Type 0} (First : Trail → Option A → Type 0) (Next : A → Tr
   judges_first : (name : List ℕ) (stages : Trail) (end : Option A) → First stages end → IsJudgedIn stages name → JudgesIn Both name
   judges_first name stages None h judged = (stages, None, inl h, judged)
   judges_first name stages (Some x) h judged =
-      let rest = (next x).some in
+      let rest = (next stages x h).some in
       judges_front name x stages rest.0 rest.1 h rest.2 judged
 
   judges_next : (name : List ℕ) (x : A) (before after : Trail) (end : Option B) → First before (Some x) → Next x after end → IsJudgedIn after name → JudgesIn Both name
@@ -147,6 +148,7 @@ ends_answer : (P : Status → List ℕ → Type 0) (Q : List ℕ → Type 0) (re
 ends_answer P Q reading st.Done text a h = h
 ends_answer P Q reading st.Usage text a h = h
 ends_answer P Q reading st.Refused text a h = h
+ends_answer P Q reading st.Conflict text a h = h
 ends_answer P Q reading st.Limit text a h = h
 ends_answer P Q reading st.ReadFault text a h = absurd a
 ends_answer P Q reading st.WriteFault text a h = absurd a
@@ -196,6 +198,7 @@ part_of : (words : List (List ℕ)) (contents : Contents) (before now : ℕ) (re
 part_of words contents before now reading old new st.Done text h cause front = inl (st.Done, text, h, front)
 part_of words contents before now reading old new st.Usage text h cause front = inl (st.Usage, text, h, front)
 part_of words contents before now reading old new st.Refused text h cause front = inl (st.Refused, text, h, front)
+part_of words contents before now reading old new st.Conflict text h cause front = inl (st.Conflict, text, h, front)
 part_of words contents before now reading old new st.Limit text h cause front = inl (st.Limit, text, h, front)
 part_of words contents before now reading old new st.ReadFault text h cause front =
     let file = cause.2 in

@@ -8,6 +8,7 @@ abbrev pub code_of : Status → ℕ
 code_of st.Done = 0
 code_of st.Usage = 1
 code_of st.Refused = 2
+code_of st.Conflict = 3
 code_of st.Limit = 4
 code_of st.ReadFault = 5
 code_of st.WriteFault = 6

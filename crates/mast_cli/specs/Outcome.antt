@@ -6,9 +6,13 @@ use Rattle.mast_write.specs.RefusalLines.{refusal_line}
 use Rattle.mast_write.specs.Usage.{usage}
 use Rattle.mast_cli.specs.declared.status.Status.{Status}
 use Rattle.mast_cli.specs.declared.status.Status.TheVariants as st
+use Rattle.mast_cli.specs.command.Check.{CheckStages, Loaded, PrintsChecked}
 use Rattle.mast_cli.specs.command.Facts.{Read, FactsStages, PrintsFacts}
 use Rattle.mast_cli.specs.FirstEvent.{Trail, first_event, IsJudgedIn}
 use Rattle.mast_cli.specs.Limits.{status_of}
+use Rattle.mast_cli.specs.stage.Restrictions.{Files, files_of}
+use Rattle.mast_cli.specs.declared.words.Task.{Task}
+use Rattle.mast_cli.specs.declared.words.Task.TheVariants as task
 use Rattle.mast_cli.specs.Words.{task_of}
 
 -- the status and the text are those of this event
@@ -32,16 +36,32 @@ abbrev pub FactsOutcome : Contents → List ℕ → Status → List ℕ → Type
 FactsOutcome contents file status text =
     EndsIn (FactsStages contents file) status text ⊎ Gives (FactsStages contents file) PrintsFacts status text
 
--- what a run may answer: the usage text where the words are no task, or the answer of `facts`
+-- the answer of `check` on three files: the first event's line, or the text of a conflict, or `consistent`
+abbrev pub CheckOutcome : Contents → Files → Status → List ℕ → Type 0
+CheckOutcome contents files status text =
+    EndsIn (CheckStages contents files) status text ⊎ Gives (CheckStages contents files) PrintsChecked status text
+
+-- the answer of a task; the number of workers changes nothing of it
+abbrev pub TaskOutcome : Contents → Task → Status → List ℕ → Type 0
+TaskOutcome contents (task.Facts mappings) = FactsOutcome contents mappings
+TaskOutcome contents (task.Check ontology constraints mappings workers) =
+    CheckOutcome contents (files_of ontology constraints mappings)
+
+-- what a run may answer: the usage text where the words are no task, or the answer of the task
 abbrev pub Outcome : List (List ℕ) → Contents → Status → List ℕ → Type 0
 Outcome words contents status text =
     ((task_of words ≡ None) × (status ≡ st.Usage) × (text ≡ usage))
-    ⊎ ((file : List ℕ) × (task_of words ≡ Some file) × FactsOutcome contents file status text)
+    ⊎ ((asked : Task) × (task_of words ≡ Some asked) × TaskOutcome contents asked status text)
+
+-- the stages of a task, up to its first event
+abbrev pub TaskTrail : Contents → Task → Trail → Type 0
+TaskTrail contents (task.Facts mappings) stages = (end : Option Read) × FactsStages contents mappings stages end
+TaskTrail contents (task.Check ontology constraints mappings workers) stages =
+    (end : Option Loaded) × CheckStages contents (files_of ontology constraints mappings) stages end
 
 -- the stages of a run on words and contents, up to its first event
 abbrev pub HasTrail : List (List ℕ) → Contents → Trail → Type 0
-HasTrail words contents stages =
-    (file : List ℕ) × (task_of words ≡ Some file) × (end : Option Read) × FactsStages contents file stages end
+HasTrail words contents stages = (asked : Task) × (task_of words ≡ Some asked) × TaskTrail contents asked stages
 
 -- the run judges this file, and no event stands at an earlier place
 abbrev pub Judges : List (List ℕ) → Contents → List ℕ → Type 0

@@ -15,6 +15,7 @@ abbrev pub IsAnswer : Status → Type 0
 IsAnswer st.Done = ⊤
 IsAnswer st.Usage = ⊤
 IsAnswer st.Refused = ⊤
+IsAnswer st.Conflict = ⊤
 IsAnswer st.Limit = ⊤
 IsAnswer st.ReadFault = ⊥
 IsAnswer st.WriteFault = ⊥
@@ -25,6 +26,7 @@ abbrev pub IsNoAnswer : Status → Type 0
 IsNoAnswer st.Done = ⊥
 IsNoAnswer st.Usage = ⊥
 IsNoAnswer st.Refused = ⊥
+IsNoAnswer st.Conflict = ⊥
 IsNoAnswer st.Limit = ⊥
 IsNoAnswer st.ReadFault = ⊤
 IsNoAnswer st.WriteFault = ⊤

@@ -1,2 +1,3 @@
 -- What each command answers.
+pub mod Check
 pub mod Facts

@@ -1,6 +1,8 @@
 -- What private functions alone cite.
+pub mod Arguments
 pub mod Causes
-pub mod Commands
 pub mod FactLines
 pub mod Loading
+pub mod Readings
+pub mod Specifying
 pub mod Telling

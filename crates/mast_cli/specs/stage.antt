@@ -1,3 +1,5 @@
 -- The stages of runs.
+pub mod Closures
 pub mod Document
+pub mod Restrictions
 pub mod Tables

@@ -1,2 +1,3 @@
 //! The commands, a file each.
+pub mod check;
 pub mod facts;

@@ -14,6 +14,8 @@ pub enum Status {
     Usage,
     /// The first event in the order of the run is a breach.
     Refused,
+    /// The facts of all rows have no model, and nothing came before.
+    Conflict,
     /// The first event in the order of the run is a counted quantity above its number.
     Limit,
     /// A call on the current file has failed.
@@ -25,7 +27,7 @@ pub enum Status {
 }
 
 impl Status {
-    /// The code with which the program ends: 0, 1, 2, 4, 5, 6 or 7.
+    /// The code with which the program ends: 0 to 7.
     pub fn code(self) -> u8
         ensures { result ≡ code_of self }
     {
@@ -33,6 +35,7 @@ impl Status {
             Status::Done => 0,
             Status::Usage => 1,
             Status::Refused => 2,
+            Status::Conflict => 3,
             Status::Limit => 4,
             Status::ReadFault => 5,
             Status::WriteFault => 6,

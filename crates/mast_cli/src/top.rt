@@ -6,6 +6,7 @@ ghost use Rattle.mast_cli.specs.Run.{WritesSoundly, TellsText, bytes_of};
 ghost use Rattle.mast_cli.specs.inside.Causes.{JudgedHasCause};
 ghost use Rattle.mast_cli.specs.inside.Telling.{TellsRun, WhenTold};
 
+use crate::command::check::judge_check;
 use crate::command::facts::judge_facts;
 use crate::judged::Judged;
 use crate::status::Status;
@@ -55,8 +56,7 @@ pub fn run<Rt: Threads + Sync, F: Files, S: Sink>(
     // A fault of the files is told.
     ensures told { F.faults files.old < F.faults files.new → IsNoAnswer result }
 {
-    let _ = rt;
-    match judge(alloc, words, files) {
+    match judge(rt, alloc, words, files) {
         Ok(judged) => match write_all_of(sink, &judged.text) {
             Ok(()) => judged.status,
             Err(_) => Status::WriteFault,
@@ -86,13 +86,34 @@ pub fn run_sound<Rt: Threads + Sync>(
 }
 
 // The status and the text of a run, but for faults of the sink.
-fn judge<F: Files>(alloc: Global, words: &[String], files: &mut F) -> Result<Judged, NoMemory>
+fn judge<Rt: Threads + Sync, F: Files>(
+    rt: &Rt,
+    alloc: Global,
+    words: &[String],
+    files: &mut F,
+) -> Result<Judged, NoMemory>
     ensures told { IfOk result (WhenTold (F.contents files.old) (TellsRun (bytes_of words.now) (F.reading files.new))) }
     ensures kept { F.contents files.new ≡ F.contents files.old }
     ensures cause { IfOk result (JudgedHasCause (F.faults files.old) (F.faults files.new) (F.reading files.new)) }
 {
     match read_words(alloc, words) {
         Ok(Task::Facts { mappings }) => judge_facts(alloc, mappings.as_str(), files),
+        Ok(
+            Task::Check {
+                ontology,
+                constraints,
+                mappings,
+                workers,
+            },
+        ) => judge_check(
+            rt,
+            alloc,
+            ontology.as_str(),
+            constraints.as_str(),
+            mappings.as_str(),
+            workers,
+            files,
+        ),
         Err(Stop::Named(Usage)) => Ok(Judged {
             status: Status::Usage,
             text: usage_text(alloc)?,

@@ -81,6 +81,111 @@ fn a_fault_of_each_call_names_its_file(rt: HostRuntime) -> Result<(), Fail> {
     Ok(())
 }
 
+const ONTOLOGY: &str = "\
+Prefix(:=<http://e/>)
+Ontology(
+DisjointClasses(:Person :Pet)
+)
+";
+
+const CONSTRAINTS: &str = "\
+Prefix(:=<http://e/>)
+Constraints(
+)
+";
+
+const ANIMALS: &str = "\
+Prefix(:=<http://e/>)
+Mappings(
+Table(t \"t.csv\" Column(id integer))
+Table(u \"u.csv\" Column(id integer))
+Map(\"SELECT id FROM t\" Class(:Person Obj(p id)))
+Map(\"SELECT id FROM u\" Class(:Pet Obj(p id)))
+)
+";
+
+// The documents of a check and their tables, of which the second has these pets.
+fn animals(alloc: Global, pets: &str) -> Result<Vec<(Text, List<u8>)>, Fail> {
+    let mut files = Vec::new(alloc);
+    files.push(entry(alloc, "o.ofn", ONTOLOGY)?)?;
+    files.push(entry(alloc, "c.ofn", CONSTRAINTS)?)?;
+    files.push(entry(alloc, "m.ofn", ANIMALS)?)?;
+    files.push(entry(alloc, "t.csv", "id\n2\n1\n")?)?;
+    files.push(entry(alloc, "u.csv", pets)?)?;
+    Ok(files)
+}
+
+const CHECK: [&str; 4] = ["check", "o.ofn", "c.ofn", "m.ofn"];
+
+const CONFLICT: &str = "conflict disjoint ontology line 3\nrow t 2\nrow u 1\n";
+
+// Each file has three calls: the one that starts it, and two that read it. No call comes after those of the last table.
+#[test]
+fn a_fault_of_each_call_of_a_check_names_its_file(rt: HostRuntime) -> Result<(), Fail> {
+    let alloc = rt.alloc();
+    let faults = [
+        ([0u64, 1, 2], "read fault \"o.ofn\"\n", Status::ReadFault),
+        ([3, 4, 5], "read fault \"c.ofn\"\n", Status::ReadFault),
+        ([6, 7, 8], "read fault \"m.ofn\"\n", Status::ReadFault),
+        ([9, 10, 11], "read fault \"t.csv\"\n", Status::ReadFault),
+        ([12, 13, 14], "read fault \"u.csv\"\n", Status::ReadFault),
+        ([15, 16, 17], CONFLICT, Status::Conflict),
+    ];
+    for (calls, text, expected) in faults {
+        for call in calls {
+            let entries = animals(alloc, "id\n1\n")?;
+            let mut files = MemFiles::new(entries, [call].to_vec(alloc)?, 1000);
+            let mut sink = MemSink::new(alloc, Vec::new(alloc), 1000, 1000)?;
+            let status = run(&rt, alloc, &words(alloc, &CHECK)?, &mut files, &mut sink);
+            assert_eq!(rt; status, expected);
+            assert_eq!(rt; sink.written(), text.as_bytes());
+        }
+    }
+    Ok(())
+}
+
+// A text of 50 bytes goes out in eight pieces of seven bytes at most.
+#[test]
+fn a_fault_of_each_put_leaves_a_front_of_a_conflict(rt: HostRuntime) -> Result<(), Fail> {
+    let alloc = rt.alloc();
+    for put in 0..9usize {
+        let mut files = MemFiles::new(animals(alloc, "id\n1\n")?, Vec::new(alloc), 1000);
+        let mut sink = MemSink::new(alloc, [put as u64].to_vec(alloc)?, 7, 1000)?;
+        let status = run(&rt, alloc, &words(alloc, &CHECK)?, &mut files, &mut sink);
+        if put < 8 {
+            assert_eq!(rt; status, Status::WriteFault);
+            assert_eq!(rt;
+                sink.written(),
+                CONFLICT.as_bytes().get(..7 * put).unwrap_or(&[])
+            );
+        } else {
+            assert_eq!(rt; status, Status::Conflict);
+            assert_eq!(rt; sink.written(), CONFLICT.as_bytes());
+        }
+    }
+    Ok(())
+}
+
+#[test]
+fn the_number_of_workers_changes_nothing(rt: HostRuntime) -> Result<(), Fail> {
+    let alloc = rt.alloc();
+    let tables = [
+        ("id\n1\n", CONFLICT, Status::Conflict),
+        ("id\n3\n", "consistent\n", Status::Done),
+    ];
+    for (pets, text, expected) in tables {
+        for workers in ["--workers=1", "--workers=3", "--workers=16"] {
+            let mut files = SoundFiles::new(animals(alloc, pets)?);
+            let mut sink = SoundSink::new(alloc, 1000)?;
+            let asked = words(alloc, &["check", workers, "o.ofn", "c.ofn", "m.ofn"])?;
+            let status = run_sound(&rt, alloc, &asked, &mut files, &mut sink);
+            assert_eq!(rt; status, expected);
+            assert_eq!(rt; sink.written(), Some(text.as_bytes()));
+        }
+    }
+    Ok(())
+}
+
 // Pieces of seven bytes: each put but the first may fail after some bytes went out.
 #[test]
 fn a_fault_of_each_put_leaves_a_front(rt: HostRuntime) -> Result<(), Fail> {

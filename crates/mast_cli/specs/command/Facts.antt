@@ -12,7 +12,7 @@ use Rattle.mast_write.specs.LineText.{IsTextOf}
 use Rattle.mast_cli.specs.declared.status.Status.{Status}
 use Rattle.mast_cli.specs.declared.status.Status.TheVariants as st
 use Rattle.mast_cli.specs.FirstEvent.{Trail, Then}
-use Rattle.mast_cli.specs.stage.Document.{MappingsStage}
+use Rattle.mast_cli.specs.stage.Document.{MappingsStage, nothing_named}
 use Rattle.mast_cli.specs.stage.Tables.{TablesStages}
 
 -- what the stages read: mappings, and the rows of their tables
@@ -22,7 +22,7 @@ Read = Mappings × List (List Row)
 -- the stages: the mapping document, and then each table that it declares, in order
 abbrev pub FactsStages : Contents → List ℕ → Trail → Option Read → Type 0
 FactsStages contents file stages end =
-    Then (MappingsStage contents file) (λ mappings. TablesStages contents mappings.tables) stages end
+    Then (MappingsStage nothing_named contents file) (λ mappings. TablesStages contents mappings.tables) stages end
 
 -- Facts(All): the facts that have a support within all rows
 abbrev pub IsFact : Read → Fact Term → Type 0

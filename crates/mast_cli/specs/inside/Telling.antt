@@ -4,7 +4,6 @@ use Rattle.std.specs.declared.alloc.Global.{Global}
 use Rattle.mast_files.specs.Outside.{Contents, Reading}
 use Rattle.mast_write.specs.declared.refusals.Refusal.{Refusal}
 use Rattle.mast_write.specs.declared.refusals.Refusal.TheVariants as refusal
-use Rattle.mast_mapping.specs.declared.map.Mappings.{Mappings}
 use Rattle.mast_terms.specs.declared.memory.Stop.{Stop}
 use Rattle.mast_terms.specs.declared.memory.Stop.TheVariants as stop
 use Rattle.mast_tree.specs.declared.document.DocName.{DocName}
@@ -14,10 +13,11 @@ use Rattle.mast_cli.specs.declared.judged.Part.{Part}
 use Rattle.mast_cli.specs.declared.judged.Part.TheVariants as part
 use Rattle.mast_cli.specs.declared.status.Status.{Status}
 use Rattle.mast_cli.specs.declared.status.Status.TheVariants as st
+use Rattle.mast_cli.specs.command.Check.{CheckStages}
 use Rattle.mast_cli.specs.command.Facts.{FactsStages}
 use Rattle.mast_cli.specs.FirstEvent.{Trail, IsJudgedIn}
-use Rattle.mast_cli.specs.Outcome.{EndsAt, EndsIn, FactsOutcome, Outcome, Judges}
-use Rattle.mast_cli.specs.stage.Document.{MappingsStage}
+use Rattle.mast_cli.specs.stage.Restrictions.{Files}
+use Rattle.mast_cli.specs.Outcome.{CheckOutcome, EndsAt, EndsIn, FactsOutcome, Outcome, Judges}
 
 -- what was judged is this event
 abbrev pub JudgedAt : Refusal → Judged → Type 0
@@ -74,6 +74,11 @@ abbrev pub TellsPart : {T : Type 0} → (Trail → Option T → Type 0) → Read
 TellsPart Stages reading (part.Read x) = (stages : Trail) × Stages stages (Some x)
 TellsPart Stages reading (part.Ended judged) = Ends (EndsIn Stages) (JudgesIn Stages) reading judged
 
+-- the same of a part that gives something by which what the stages read is known
+abbrev pub TellsAs : {A T : Type 0} → (A → T → Type 0) → (Trail → Option A → Type 0) → Reading → Part T → Type 0
+TellsAs {A} Is Stages reading (part.Read x) = (read : A) × Is read x × (stages : Trail) × Stages stages (Some read)
+TellsAs Is Stages reading (part.Ended judged) = Ends (EndsIn Stages) (JudgesIn Stages) reading judged
+
 -- P of the contents and of x, where the contents are told
 abbrev pub WhenTold : {T : Type 0} → Option Contents → (Contents → T → Type 0) → T → Type 0
 WhenTold contents P x = IfSome contents (λ c. P c x)
@@ -83,14 +88,15 @@ abbrev pub IfRead : {T : Type 0} → (T → Type 0) → Part T → Type 0
 IfRead P (part.Read x) = P x
 IfRead P (part.Ended judged) = ⊤
 
--- the stage of a mapping document in a file
-abbrev pub TellsMappings : List ℕ → Reading → Contents → Part Mappings → Type 0
-TellsMappings file reading contents what = TellsPart (MappingsStage contents file) reading what
-
 -- the run of `facts` on a file
 abbrev pub TellsFacts : List ℕ → Reading → Contents → Judged → Type 0
 TellsFacts file reading contents judged =
     Ends (FactsOutcome contents file) (JudgesIn (FactsStages contents file)) reading judged
+
+-- the run of `check` on three files
+abbrev pub TellsCheck : Files → Reading → Contents → Judged → Type 0
+TellsCheck files reading contents judged =
+    Ends (CheckOutcome contents files) (JudgesIn (CheckStages contents files)) reading judged
 
 -- the run
 abbrev pub TellsRun : List (List ℕ) → Reading → Contents → Judged → Type 0

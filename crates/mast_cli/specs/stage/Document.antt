@@ -1,8 +1,16 @@
 -- The stage of a document: its bytes, its tokens, its tree, and then what a reader of documents says of the tree.
 use Rattle.std.specs.Prelude.{◌≡◌, ◌⊎◌, ◌<◌, ◌≤◌, ℕ, List, [], length, Option}
 use Rattle.mast_files.specs.Outside.{Contents}
+use Rattle.mast_constr.specs.Whole.{HasConstraints, IsConstraintsBreach}
 use Rattle.mast_mapping.specs.declared.map.Mappings.{Mappings}
 use Rattle.mast_mapping.specs.Documents.{HasMappings, IsMappingsBreach}
+use Rattle.mast_onto.specs.Ontologies.{HasOntology, IsOntologyBreach}
+use Rattle.mast_tbox.specs.declared.axiom.Inclusion.{Inclusion}
+use Rattle.mast_tbox.specs.declared.axiom.Lined.{Lined}
+use Rattle.mast_tbox.specs.declared.axiom.Negative.{Negative}
+use Rattle.mast_tbox.specs.declared.constraint.Constraints.{Constraints}
+use Rattle.mast_tbox.specs.declared.expression.Prop.{Prop}
+use Rattle.mast_tbox.specs.declared.tbox.Ontology.{Ontology}
 use Rattle.mast_terms.specs.Vocabularies.{Lists, lists_of}
 use Rattle.mast_tree.specs.declared.document.DocName.{DocName}
 use Rattle.mast_tree.specs.declared.document.DocName.TheVariants as doc
@@ -69,16 +77,40 @@ DocumentStage Has Breaks name contents file stages end =
 abbrev pub nothing_named : Lists
 nothing_named = lists_of [] [] [] []
 
--- bytes that are a mapping document, and the mappings that it says
-abbrev pub HoldMappings : List ℕ → Mappings → Type 0
-HoldMappings bytes mappings = HasValue (λ document. HasMappings document nothing_named) bytes mappings
+-- what an ontology says: its names, and its axioms, each with its line
+pub record Axioms : Type 0 where
+  pub vocab : Lists
+  pub inclusions : List (Lined Inclusion)
+  pub negatives : List (Lined Negative)
+  pub functional : List (Lined Prop)
 
--- the first event of the bytes of a mapping document, but for their number
-abbrev pub MappingsEvent : List ℕ → Refusal → Type 0
-MappingsEvent bytes event = BytesEvent (λ document. IsMappingsBreach document nothing_named) doc.Mappings bytes event
+-- the axioms of an ontology
+abbrev pub axioms_of : Ontology → Axioms
+axioms_of ontology = record {
+  vocab = ontology.vocab;
+  inclusions = ontology.tbox.inclusions;
+  negatives = ontology.tbox.negatives;
+  functional = ontology.tbox.functional;
+}
 
--- the stage of a mapping document in a file
-abbrev pub MappingsStage : Contents → List ℕ → Trail → Option Mappings → Type 0
-MappingsStage contents file stages end =
-    DocumentStage (λ document. HasMappings document nothing_named) (λ document. IsMappingsBreach document nothing_named)
+-- the document is an ontology that says these axioms
+abbrev pub SaysAxioms : Document → Axioms → Type 0
+SaysAxioms document axioms =
+    (ontology : Ontology) × HasOntology document nothing_named ontology × (axioms ≡ axioms_of ontology)
+
+-- the stage of an ontology in a file
+unfoldable pub OntologyStage : Contents → List ℕ → Trail → Option Axioms → Type 0
+OntologyStage contents file stages end =
+    DocumentStage SaysAxioms (λ document. IsOntologyBreach document nothing_named) doc.Ontology contents file stages end
+
+-- the stage of a constraint document in a file, which is read over names and constants
+unfoldable pub ConstraintsStage : Lists → Contents → List ℕ → Trail → Option Constraints → Type 0
+ConstraintsStage old contents file stages end =
+    DocumentStage (λ document. HasConstraints document old) (λ document. IsConstraintsBreach document old)
+    doc.Constraints contents file stages end
+
+-- the stage of a mapping document in a file, which is read over names and constants
+unfoldable pub MappingsStage : Lists → Contents → List ℕ → Trail → Option Mappings → Type 0
+MappingsStage old contents file stages end =
+    DocumentStage (λ document. HasMappings document old) (λ document. IsMappingsBreach document old)
     doc.Mappings contents file stages end

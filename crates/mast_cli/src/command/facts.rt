@@ -3,9 +3,12 @@ ghost use Rattle.std.specs.Prelude.{◌≡◌, ◌++◌, [], ◌∷◌, IfOk, On
 ghost use Rattle.std.specs.List.{AllByRecursion};
 ghost use Rattle.mast_canon.specs.Choices.{IsChoice};
 ghost use Rattle.mast_canon.specs.Fitting.{Fits};
-ghost use Rattle.mast_cli.specs.inside.Causes.{JudgedHasCause};
+ghost use Rattle.mast_canon.specs.Premises.{AreMappings};
+ghost use Rattle.mast_cli.specs.inside.Causes.{JudgedHasCause, PartHasCause};
+ghost use Rattle.mast_cli.specs.inside.Readings.{TellsMappings};
+ghost use Rattle.mast_cli.specs.stage.Document.{nothing_named};
 ghost use Rattle.mast_cli.specs.inside.FactLines.{AddsMap, AreFactLines, AreMaps, IsFactText, lines_of};
-ghost use Rattle.mast_cli.specs.inside.Telling.{TellsFacts, WhenTold};
+ghost use Rattle.mast_cli.specs.inside.Telling.{IfRead, TellsFacts, WhenTold};
 
 use crate::document::judge_mappings;
 use crate::judged::{Judged, Part};
@@ -14,9 +17,9 @@ use crate::tables::judge_tables;
 use mast_canon::{Spec, Tables};
 use mast_files::Files;
 use mast_join::{Choices, choices};
-use mast_mapping::SplitMap;
+use mast_mapping::{Mappings, SplitMap};
 use mast_tables::{Table, files_have_one_answer};
-use mast_terms::NoMemory;
+use mast_terms::{NoMemory, Vocabulary};
 use mast_write::{FactPlan, Lines};
 use std::alloc::Global;
 
@@ -29,7 +32,7 @@ pub fn judge_facts<F: Files>(alloc: Global, file: &str, files: &mut F) -> Result
     // Where a call on a file fails, the stages behind it are still those of the contents.
     files_have_one_answer();
 
-    let mappings = match judge_mappings(alloc, file, files)? {
+    let mappings = match mappings_alone(alloc, file, files)? {
         Part::Read(mappings) => mappings,
         Part::Ended(judged) => return Ok(judged),
     };
@@ -42,6 +45,21 @@ pub fn judge_facts<F: Files>(alloc: Global, file: &str, files: &mut F) -> Result
         status: Status::Done,
         text: facts_text(alloc, &spec, Tables { list })?,
     })
+}
+
+// The stage of the mapping document, which is read over no names.
+fn mappings_alone<F: Files>(
+    alloc: Global,
+    file: &str,
+    files: &mut F,
+) -> Result<Part<Mappings>, NoMemory>
+    ensures told { IfOk result (WhenTold (F.contents files.old)
+        (TellsMappings nothing_named file.now (F.reading files.new))) }
+    ensures maps { IfOk result (IfRead AreMappings) }
+    ensures kept { F.contents files.new ≡ F.contents files.old }
+    ensures cause { IfOk result (PartHasCause (F.faults files.old) (F.faults files.new) (F.reading files.new)) }
+{
+    judge_mappings(alloc, file, Vocabulary::new(alloc), files)
 }
 
 // The text of the lines of all facts.
