@@ -1,0 +1,12 @@
+pub mod AskedLemmas
+pub mod BlockLemmas
+pub mod CertainLemmas
+pub mod FoundLemmas
+pub mod GainedLemmas
+pub mod HitLemmas
+pub mod NumberLemmas
+pub mod OrderedLemmas
+pub mod SetLemmas
+pub mod SupportedLemmas
+pub mod TupleLemmas
+pub mod UnionLemmas

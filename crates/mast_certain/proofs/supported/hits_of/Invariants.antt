@@ -1,0 +1,13 @@
+-- The hits of the blocks so far.
+use Rattle.std.proofs.Common.{take}
+use Rattle.mast_join.specs.Answers.{IsOverSame}
+use Rattle.mast_certain.specs.LargeClosures.{NoneIsTooLarge}
+use Rattle.mast_certain.proofs.SupportedLemmas.{AreHitsSoFar}
+use Rattle.mast_certain.proofs.supported.hits_of.Given as goal
+
+abbrev pub invariant-loop-number : goal.invariant-loop-number
+invariant-loop-number g l = record {
+  over : IsOverSame l.fn.extensions l.extensions;
+  hits : AreHitsSoFar l.spec l.fn.extensions.over.rows l.blocks l.number l.hits.items;
+  none : NoneIsTooLarge l.spec (take l.number l.blocks);
+}
